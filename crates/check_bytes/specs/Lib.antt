@@ -1,0 +1,4 @@
+pub mod Polynomials
+pub mod Checks
+pub mod Rules
+pub mod Theorems
