@@ -1,0 +1,7 @@
+// Strings of drives: what hangs behind the controller, behind one interface.
+pub mod collar;
+pub mod geometry;
+pub mod numbers;
+pub mod pair;
+pub mod parts;
+pub mod string;

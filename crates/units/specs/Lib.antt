@@ -1,0 +1,4 @@
+pub mod Rows
+pub mod Units
+pub mod Kept
+pub mod Found

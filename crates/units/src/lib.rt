@@ -1,0 +1,4 @@
+// Single units over a row of bytes: an image over memory of the caller, and the cartridge.
+pub mod layout;
+pub mod memory;
+pub mod unit;
