@@ -1,0 +1,7 @@
+pub mod Trailer
+pub mod Checks
+pub mod Refusals
+pub mod Layers
+pub mod Fresh
+pub mod Bays
+pub mod Blank

@@ -1,0 +1,111 @@
+ghost use mathlib.Core.Path.{_≡_};
+ghost use Rattle.std.specs.Of.Vec.{vec-items};
+ghost use Rattle.images.specs.Checks.{layout-of};
+ghost use Rattle.images.specs.Fresh.{new, no-layout, fresh-state, cartridge-state, empty-cells};
+use crate::trailer::Checked;
+use crate::trailer::check_image;
+use units::layout::Layout;
+use units::memory::Cells;
+use units::memory::Lent;
+use units::memory::Owned;
+use units::unit::State;
+use units::unit::Unit;
+
+// A unit over an image in memory of the caller.
+pub type Image<'a> = Unit<Lent<'a>>;
+
+// A unit over an image in memory of its own.
+pub type OwnedImage = Unit<Owned>;
+
+// A unit that keeps its 2,224 bytes itself: 2 cylinders, 2 heads, 4 slots of 128 data bytes.
+pub type Cartridge = Unit<Cells>;
+
+// A new unit with its slots there: it stands at cylinder 0, ready, not protected, without fault.
+fn new_state(layout: Layout, ready: bool) -> State
+    ensures { λ r. ⌜ r ≡ new layout ready ⌝ }
+{
+    State {
+        layout,
+        cylinder: 0,
+        ready,
+        protect: false,
+        fault: false,
+    }
+}
+
+// Where the slots of a checked image lie.
+fn layout_of(checked: Checked) -> Layout
+    ensures { λ r. ⌜ r ≡ layout-of checked ⌝ }
+{
+    Layout {
+        first: checked.first,
+        cylinders: checked.geometry.cylinders,
+        heads: checked.geometry.heads,
+        slots: checked.geometry.slots,
+        length: checked.geometry.length,
+    }
+}
+
+// The state of a new unit over an image; over a refused one it has no places and is not ready.
+pub fn image_state(bytes: &[u8]) -> State
+    ensures { λ r. ⌜ r ≡ fresh-state (now (bytes .entry)) ⌝ }
+{
+    match check_image(bytes) {
+        Ok(checked) => new_state(layout_of(checked), true),
+        Err(_) => new_state(no_layout(), false),
+    }
+}
+
+fn no_layout() -> Layout
+    ensures { λ r. ⌜ r ≡ no-layout ⌝ }
+{
+    Layout {
+        first: 0,
+        cylinders: 0,
+        heads: 0,
+        slots: 0,
+        length: 0,
+    }
+}
+
+// A new unit over an image in memory of the caller.
+pub fn new_image(bytes: &mut [u8]) -> Image<'_>
+    ensures state { λ r. ⌜ r .state ≡ fresh-state (now (bytes .entry)) ⌝ }
+    ensures memory { λ r. ⌜ now (r .memory .bytes) ≡ now (bytes .entry) ⌝ }
+{
+    let state = image_state(bytes);
+    Unit {
+        state,
+        memory: Lent { bytes },
+    }
+}
+
+// A new unit over an image in memory of its own.
+pub fn new_owned_image(bytes: Vec<u8>) -> OwnedImage
+    ensures state { λ r. ⌜ r .state ≡ fresh-state (vec-items bytes) ⌝ }
+    ensures memory { λ r. ⌜ r .memory .bytes ≡ bytes ⌝ }
+{
+    let state = image_state(bytes.as_slice());
+    Unit {
+        state,
+        memory: Owned { bytes },
+    }
+}
+
+// A new cartridge, all its bytes 00.
+pub fn new_cartridge() -> Cartridge
+    ensures state { λ r. ⌜ r .state ≡ cartridge-state ⌝ }
+    ensures memory { λ r. ⌜ r .memory .bytes ≡ empty-cells ⌝ }
+{
+    let layout = Layout {
+        first: 0,
+        cylinders: 2,
+        heads: 2,
+        slots: 4,
+        length: 128,
+    };
+    Unit {
+        state: new_state(layout, true),
+        memory: Cells::new(),
+    }
+}

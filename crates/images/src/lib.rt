@@ -1,0 +1,7 @@
+// Images: a unit over memory of the caller, with the check of its trailer.
+pub mod bay;
+pub mod blank;
+pub mod image;
+pub mod layers;
+pub mod refusal;
+pub mod trailer;
