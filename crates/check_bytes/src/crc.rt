@@ -8,7 +8,7 @@ use crate::rule::CheckRule;
 use crate::table::REMAINDERS;
 
 // The cyclic redundancy check by x^16 + x^12 + x^5 + 1, the polynomial of CCITT.
-#[derive(Clone, Copy, Debug)]
+#[derive(Clone, Copy)]
 pub struct Crc16;
 
 // What a byte times x^16 leaves.

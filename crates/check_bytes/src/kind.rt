@@ -6,7 +6,7 @@ use crate::lrc::Lrc16Rule;
 use crate::rule::CheckRule;
 
 // A rule chosen at run time.
-#[derive(Clone, Copy, Debug, PartialEq, Eq)]
+#[derive(Clone, Copy)]
 pub enum CheckKind {
     Crc,
     Lrc,

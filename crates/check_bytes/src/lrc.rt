@@ -4,7 +4,7 @@ use crate::halves::low_byte_raised;
 use crate::rule::CheckRule;
 
 // The longitudinal redundancy check by x^16 + 1: the parity of each bit over the two-byte words, counted from the end.
-#[derive(Clone, Copy, Debug)]
+#[derive(Clone, Copy)]
 pub struct Lrc16;
 
 pub impl CheckRule for Lrc16 as Lrc16Rule {

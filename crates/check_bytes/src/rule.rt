@@ -4,7 +4,7 @@ ghost use Rattle.check_bytes.specs.Polynomials.{Degree};
 ghost use Rattle.check_bytes.specs.Checks.{fed, start-value};
 
 // What the check register holds before the first byte.
-#[derive(Clone, Copy, Debug, PartialEq, Eq)]
+#[derive(Clone, Copy)]
 pub enum Start {
     Zeros,
     Ones,

@@ -1,6 +1,5 @@
 use check_bytes::kind::CheckKind;
 use check_bytes::rule::Start;
-use check_bytes::rule::StartPartialEq;
 use std::alloc::AllocError;
 use std::alloc::Global;
 
@@ -56,7 +55,7 @@ fn dividend(heap: Global, start: Start, bytes: &[u8]) -> Result<Vec<bool>, Alloc
     for _ in 0u8..16 {
         bits.push(false)?;
     }
-    if start == Start::Ones {
+    if let Start::Ones = start {
         for bit in bits.iter_mut().take(16) {
             *bit = !*bit;
         }

@@ -1,0 +1,5 @@
+pub mod Stages
+pub mod Rules
+pub mod Told
+pub mod Bytes
+pub mod Theorems

@@ -1,0 +1,3 @@
+pub mod Ids
+pub mod Fields
+pub mod Search
