@@ -1,0 +1,3 @@
+mod OfStrings
+mod OfRows
+mod OfImages

@@ -1,0 +1,3 @@
+pub mod OfStrings
+pub mod OfRows
+pub mod OfImages
