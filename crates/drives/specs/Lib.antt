@@ -5,3 +5,4 @@ pub mod Sound
 pub mod Joined
 pub mod Sides
 pub mod Kept
+pub mod Bays

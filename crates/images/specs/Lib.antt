@@ -3,5 +3,4 @@ pub mod Checks
 pub mod Refusals
 pub mod Layers
 pub mod Fresh
-pub mod Bays
 pub mod Blank

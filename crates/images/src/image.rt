@@ -1,6 +1,7 @@
 ghost use mathlib.Core.Path.{_≡_};
 ghost use Rattle.std.specs.Of.Vec.{vec-items};
 ghost use Rattle.images.specs.Checks.{layout-of};
+ghost use Rattle.units.specs.declared.memory.RackMemory.the-variants.{Image as RackImage, Cartridge as RackCartridge};
 ghost use Rattle.images.specs.Fresh.{new, no-layout, fresh-state, cartridge-state, empty-cells};
 use crate::trailer::Checked;
 use crate::trailer::check_image;
@@ -8,6 +9,7 @@ use units::layout::Layout;
 use units::memory::Cells;
 use units::memory::Lent;
 use units::memory::Owned;
+use units::memory::RackMemory;
 use units::unit::State;
 use units::unit::Unit;
 
@@ -107,5 +109,32 @@ pub fn new_cartridge() -> Cartridge
     Unit {
         state: new_state(layout, true),
         memory: Cells::new(),
+    }
+}
+
+// A drive of a rack, in memory of its own: an image or a cartridge.
+pub type RackUnit = Unit<RackMemory<Owned>>;
+
+// A new unit of a rack over an image.
+pub fn new_rack_image(bytes: Vec<u8>) -> RackUnit
+    ensures state { λ r. ⌜ r .state ≡ fresh-state (vec-items bytes) ⌝ }
+    ensures memory { λ r. ⌜ r .memory ≡ RackImage (record { bytes = bytes }) ⌝ }
+{
+    let image = new_owned_image(bytes);
+    Unit {
+        state: image.state,
+        memory: RackMemory::Image(image.memory),
+    }
+}
+
+// A new cartridge in a rack.
+pub fn new_rack_cartridge() -> RackUnit
+    ensures state { λ r. ⌜ r .state ≡ cartridge-state ⌝ }
+    ensures memory { λ r. ⌜ r .memory ≡ RackCartridge (record { bytes = empty-cells }) ⌝ }
+{
+    let cartridge = new_cartridge();
+    Unit {
+        state: cartridge.state,
+        memory: RackMemory::Cartridge(cartridge.memory),
     }
 }

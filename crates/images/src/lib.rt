@@ -1,5 +1,4 @@
 // Images: a unit over memory of the caller, with the check of its trailer.
-pub mod bay;
 pub mod blank;
 pub mod image;
 pub mod layers;

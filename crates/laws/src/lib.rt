@@ -13,6 +13,7 @@ pub fn changes_stand() -> u8
 {
     0
 }
+
 ghost use Rattle.laws.specs.OfRows.{Where-things-lie, Every-byte-is-named};
 
 // Where a unit's marks and bytes lie in its row, and that its meaning and what the row holds besides are all of it.
@@ -22,6 +23,7 @@ pub fn rows_stand() -> u8
 {
     0
 }
+
 ghost use Rattle.laws.specs.OfImages.{Accepted-images-have-their-shape, Refused-images-have-no-places};
 ghost use Rattle.laws.specs.OfImages.{Blank-images-are-accepted, Worked-distances, Read-only-the-trailer};
 

@@ -1,3 +1,4 @@
+pub mod Racks
 pub mod Rows
 pub mod Units
 pub mod Kept

@@ -4,6 +4,7 @@ ghost use Prim.Native.Nat.{ℕ};
 ghost use lib.ListN.{length, getD, set, replicate};
 ghost use denote.Ref.{now};
 ghost use Rattle.std.specs.Of.Vec.{vec-items};
+ghost use Rattle.units.specs.Racks.{rack-contents};
 
 // The bytes that a unit stands over. A byte past the end shows 0, and a change there does nothing.
 pub trait Memory {
@@ -114,5 +115,37 @@ pub impl Memory for Cells as CellsMemory {
 
     fn put(&mut self, i: usize, value: u8) {
         set_byte_at(&mut self.bytes, i, value);
+    }
+}
+
+// The memory of any drive of a rack: an image's, or a cartridge's.
+#[derive(Drop)]
+pub enum RackMemory<M> {
+    Image(M),
+    Cartridge(Cells),
+}
+
+pub impl<M: Memory> Memory for RackMemory<M> as RackMemoryBytes {
+    ghost contents = { rack-contents (M·Memory .contents) };
+
+    fn size(&self) -> usize {
+        match self {
+            RackMemory::Image(bytes) => bytes.size(),
+            RackMemory::Cartridge(cells) => cells.size(),
+        }
+    }
+
+    fn get(&self, i: usize) -> u8 {
+        match self {
+            RackMemory::Image(bytes) => bytes.get(i),
+            RackMemory::Cartridge(cells) => cells.get(i),
+        }
+    }
+
+    fn put(&mut self, i: usize, value: u8) {
+        match self {
+            RackMemory::Image(bytes) => bytes.put(i, value),
+            RackMemory::Cartridge(cells) => cells.put(i, value),
+        }
     }
 }

@@ -1,0 +1,12 @@
+use mathlib.Core.Path.{_≡_, refl, sym, subst}
+use Rattle.drives.specs.Changes.{changed, with-byte}
+use Rattle.drives.specs.declared.bay.Bay.{Bay}
+use Rattle.drives.specs.Bays.{bay-meaning}
+use Rattle.drives.proofs.bay.BayString.set_byte.Needs as need
+
+pub returns-in-Empty : need.returns-in-Empty
+unfolding changed
+returns-in-Empty g c = record {
+  meaning = subst (λ (b : Bay (g .S .Denot)). bay-meaning (g .S·DriveString .meaning) b ≡ changed (bay-meaning (g .S·DriveString .meaning) b) (c .args .place .unit) (with-byte (c .args .part) (c .args .place .head .0) (c .args .place .slot .0) (c .args .i) (c .args .value))) (sym (c .in-Empty .is)) refl;
+  rest = refl;
+}
