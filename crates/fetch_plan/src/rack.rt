@@ -9,9 +9,9 @@ use images::blank::blank_image;
 use images::image::new_cartridge;
 use images::image::new_image;
 use images::layers::check_string;
+use memory::cells::CellsMemory;
+use memory::lent::LentMemory;
 use std::error::AnyError;
-use units::memory::CellsMemory;
-use units::memory::LentMemory;
 use units::unit::UnitString;
 
 // What a unit shows.

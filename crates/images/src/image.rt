@@ -1,15 +1,15 @@
 ghost use mathlib.Core.Path.{_≡_};
 ghost use Rattle.std.specs.Of.Vec.{vec-items};
 ghost use Rattle.images.specs.Checks.{layout-of};
-ghost use Rattle.units.specs.declared.memory.RackMemory.the-variants.{Image as RackImage, Cartridge as RackCartridge};
+ghost use Rattle.memory.specs.declared.rack.RackMemory.the-variants.{Image as RackImage, Cartridge as RackCartridge};
 ghost use Rattle.images.specs.Fresh.{new, no-layout, fresh-state, cartridge-state, empty-cells};
 use crate::trailer::Checked;
 use crate::trailer::check_image;
+use memory::cells::Cells;
+use memory::lent::Lent;
+use memory::owned::Owned;
+use memory::rack::RackMemory;
 use units::layout::Layout;
-use units::memory::Cells;
-use units::memory::Lent;
-use units::memory::Owned;
-use units::memory::RackMemory;
 use units::unit::State;
 use units::unit::Unit;
 

@@ -1,4 +1,3 @@
-pub mod Racks
 pub mod Rows
 pub mod Units
 pub mod Kept

@@ -1,4 +1,3 @@
 // Single units over a row of bytes: an image over memory of the caller, and the cartridge.
 pub mod layout;
-pub mod memory;
 pub mod unit;

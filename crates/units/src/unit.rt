@@ -9,7 +9,6 @@ ghost use Rattle.units.specs.Units.{shape-in, standing, alone, rest-of};
 ghost use Rattle.units.specs.Kept.{alone-sound};
 ghost use Rattle.units.specs.Found.{Found, FoundByte};
 use crate::layout::Layout;
-use crate::memory::Memory;
 use drives::geometry::Geometry;
 use drives::numbers::PhysicalCylinder;
 use drives::parts::Direction;
@@ -17,6 +16,7 @@ use drives::parts::Line;
 use drives::parts::Part;
 use drives::parts::Place;
 use drives::string::DriveString;
+use memory::bytes::Memory;
 
 // A unit's layout, the cylinder where its heads stand, and its lines.
 #[derive(Clone, Copy)]
