@@ -1,7 +1,7 @@
 -- What strings made of strings mean.
 use mathlib.Core.Bool.{true, cond}
 use mathlib.Core.List.{List, _++_, map}
-use lib.ListN.{take}
+use lib.ListN.{take, drop}
 use Rattle.drives.specs.declared.parts.Line.the-variants.{Protect}
 use Rattle.drives.specs.Drives.{Drive}
 use Rattle.drives.specs.Changes.{same-line}
@@ -9,6 +9,10 @@ use Rattle.drives.specs.Changes.{same-line}
 -- a pair: the second string's units follow the first's, and those past the eighth are missing
 unfoldable pub joined : List Drive → List Drive → List Drive
 joined xs ys = take 8 (xs ++ ys)
+
+-- the units past the eighth
+unfoldable pub left-over : List Drive → List Drive → List Drive
+left-over xs ys = drop 8 (xs ++ ys)
 
 -- a unit held for good
 unfoldable pub hold : Drive → Drive

@@ -23,8 +23,9 @@ pub record Sound (ds : List Drive) : Type 0 where
   pub few : length ds ≤ 8
   pub each : (u : ℕ) → SoundDrive (drive ds u)
 
--- memory that the meaning does not name: how long it is, and what each of its bytes holds besides
+-- what the meaning does not name: of memory how long it is, where its first slot begins and what each of its bytes
+-- holds besides; of two strings joined the units past the eighth and what either does not name
 pub data Rest : Type 0 where
   nothing : Rest
-  memory : ℕ → (ℕ → ℕ) → Rest
-  both : Rest → Rest → Rest
+  memory : ℕ → ℕ → (ℕ → ℕ) → Rest
+  both : List Drive → Rest → Rest → Rest

@@ -1,5 +1,5 @@
 ghost use mathlib.Core.Path.{_≡_};
-ghost use Rattle.drives.specs.Joined.{joined};
+ghost use Rattle.drives.specs.Joined.{joined, left-over};
 ghost use Rattle.drives.specs.Sound.{both};
 ghost use Rattle.drives.specs.Sides.{SideOf};
 ghost use Rattle.drives.specs.Kept.{joined-sound};
@@ -54,7 +54,7 @@ fn which_side<A: DriveString, B: DriveString>(pair: &Pair<A, B>, unit: u8) -> Si
 pub impl<A: DriveString, B: DriveString> DriveString for Pair<A, B> as PairString {
     ghost meaning = { λ p. joined (A·DriveString .meaning (p .first)) (B·DriveString .meaning (p .second)) };
 
-    ghost rest = { λ p. both (A·DriveString .rest (p .first)) (B·DriveString .rest (p .second)) };
+    ghost rest = { λ p. both (left-over (A·DriveString .meaning (p .first)) (B·DriveString .meaning (p .second))) (A·DriveString .rest (p .first)) (B·DriveString .rest (p .second)) };
 
     ghost sound = { λ p. joined-sound (A·DriveString .meaning (p .first)) (B·DriveString .meaning (p .second)) (A·DriveString .sound (p .first)) (B·DriveString .sound (p .second)) };
 

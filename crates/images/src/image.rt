@@ -82,6 +82,16 @@ pub fn new_image(bytes: &mut [u8]) -> Image<'_>
     }
 }
 
+// Ends an image: the caller's memory comes back as it stands.
+pub fn end_image(image: Image<'_>) -> &mut [u8]
+    ensures { λ r. ⌜ now r ≡ now (image .entry .memory .bytes) ⌝ }
+{
+    let Unit { state: _, memory } = image;
+    let Lent { bytes } = memory;
+    let whole = bytes;
+    whole
+}
+
 // A new unit over an image in memory of its own.
 pub fn new_owned_image(bytes: Vec<u8>) -> OwnedImage
     ensures state { λ r. ⌜ r .state ≡ fresh-state (vec-items bytes) ⌝ }

@@ -1,24 +1,28 @@
 -- The theorems on rows.
 use Prim.Native.Nat.{ℕ, zero, suc, _+_, _-_, _*_, _/_, _%_, _<_, _≤_}
-use mathlib.Core.Path.{_≡_, refl, sym, ap, subst, _∙_}
-use mathlib.Core.Bool.{true, false, _&&_}
+use mathlib.Core.Path.{_≡_, refl, sym, ap, ap₂, subst, _∙_}
+use mathlib.Core.Bool.{Bool, true, false, _&&_}
 use mathlib.Core.List.{List}
 use mathlib.Core.Logic.{⊎-elim}
 use native.Mathlib.Omega.{arith}
 use lib.Dec.{ltb, leb, eqb}
-use lib.ListN.{length, getD}
+use lib.ListN.{length, getD, set}
 use Rattle.std.proofs.shelf.Bits.{div-add-mod', div-below, mod-below}
 use Rattle.std.proofs.shelf.Lists.{ext-getD}
-use Rattle.std.proofs.shelf.Tests.{cases-lt, cases-eq, cases-bool, cond-true, cond-false}
+use Rattle.std.proofs.shelf.Tests.{cases-lt, cases-eq, cases-bool, cond-true, cond-false, and-parts, ltb-true}
 use Rattle.std.proofs.shelf.Ways.{tells}
 use Rattle.drives.specs.declared.parts.Part.{Part}
 use Rattle.drives.specs.declared.parts.Part.the-variants.{Id, Data}
 use Rattle.drives.specs.Drives.{Drive, Shape, is-place, is-byte, part-size}
 use Rattle.drives.specs.Sound.{Rest, nothing, memory, both}
 use Rattle.units.specs.declared.layout.Layout.{Layout}
-use Rattle.units.specs.Rows.{slot-size, slot-at, area, part-start, mark-bit, marks-in, bytes-in, besides}
-use Rattle.units.specs.Units.{said, fits, shape-in, unit-of}
-use Rattle.laws.specs.OfRows.{Where-things-lie, Every-byte-is-named}
+use Rattle.drives.specs.Changes.{with-cylinder, with-line, with-mark, with-byte}
+use Rattle.units.specs.declared.unit.State.{State}
+use Rattle.units.specs.Rows.{slot-size, slot-at, area, part-start, mark-bit, with-bit, marks-in, bytes-in, besides}
+use Rattle.units.specs.Units.{said, fits, shape-in, standing, lines-of, unit-of, rest-of}
+use Rattle.laws.specs.OfStrings.{step, line-to, mark-to, byte-to}
+use Rattle.laws.specs.OfRows.{Where-things-lie, Every-byte-is-named, row-after, Exactly-that-byte-changes}
+use Rattle.units.proofs.Places.{row-holds, no-mark-changes, no-byte-changes, mark-set, byte-set, mark-rest, byte-rest, written, rest-written}
 use Rattle.units.proofs.Slots.{slot-inside}
 
 -- ---- where things lie
@@ -156,26 +160,81 @@ module _ (g : Shape) (first : ℕ) (xs ys : List ℕ) (em : (p : Part) (c h s : 
 -- the parts of a memory
 size-of : Rest → ℕ
 size-of nothing = 0
-size-of (memory n f) = n
-size-of (both a b) = 0
+size-of (memory n first f) = n
+size-of (both ds a b) = 0
+
+first-of : Rest → ℕ
+first-of nothing = 0
+first-of (memory n first f) = first
+first-of (both ds a b) = 0
 
 holds-of : Rest → ℕ → ℕ
 holds-of nothing k = 0
-holds-of (memory n f) k = f k
-holds-of (both a b) k = 0
+holds-of (memory n first f) k = f k
+holds-of (both ds a b) k = 0
 
 pub every-byte : Every-byte-is-named
-unfolding unit-of size-of holds-of
-every-byte st xs ys eu er =
-    let l : Layout = st .layout in
+unfolding unit-of size-of first-of holds-of
+every-byte st st′ xs ys es em eb er =
     let first : ℕ = st .layout .first in
-    let g : Shape = shape-in l (length xs) in
+    let g : Shape = shape-in (st .layout) (length xs) in
+    let g′ : Shape = shape-in (st′ .layout) (length ys) in
     let same : length xs ≡ length ys = ap size-of er in
-    let shape : shape-in l (length ys) ≡ g = ap (λ n. shape-in l n) (sym same) in
+    let shape : g′ ≡ g = sym es in
+    let begin : st′ .layout .first ≡ first = sym (ap first-of er) in
     ext-getD 0 xs ys same
     (λ k lk.
     named g first xs ys
-    (λ p c h s. ap (λ (d : Drive). d .marks p c h s) eu ∙ ap (λ (x : Shape). marks-in x first ys p c h s) shape)
-    (λ p c h s i. ap (λ (d : Drive). d .bytes p c h s i) eu ∙ ap (λ (x : Shape). bytes-in x first ys p c h s i) shape)
-    (λ j. ap (λ (m : Rest). holds-of m j) er ∙ ap (λ (x : Shape). besides x first ys j) shape)
+    (λ p c h s. ap (λ (m : Part → ℕ → ℕ → ℕ → Bool). m p c h s) em ∙ ap₂ (λ (x : Shape) (b : ℕ). marks-in x b ys p c h s) shape begin)
+    (λ p c h s i. ap (λ (m : Part → ℕ → ℕ → ℕ → ℕ → ℕ). m p c h s i) eb ∙ ap₂ (λ (x : Shape) (b : ℕ). bytes-in x b ys p c h s i) shape begin)
+    (λ j. ap (λ (m : Rest). holds-of m j) er ∙ ap₂ (λ (x : Shape) (b : ℕ). besides x b ys j) shape begin)
     k)
+
+-- ---- exactly that byte changes
+
+-- the same unit and rest over another row
+same-unit : (st st′ : State) (xs ys : List ℕ) → unit-of st′ ys ≡ unit-of st xs → rest-of st′ ys ≡ rest-of st xs → ys ≡ xs
+same-unit st st′ xs ys eu er = every-byte st′ st ys xs (ap (λ (d : Drive). d .shape) eu) (ap (λ (d : Drive). d .marks) eu) (ap (λ (d : Drive). d .bytes) eu) er
+
+mark-changes : (st st′ : State) (row row′ : List ℕ) (p : Part) (h s : ℕ) (value : Bool) → unit-of st′ row′ ≡ with-mark p h s value (unit-of st row) → rest-of st′ row′ ≡ rest-of st row → row′ ≡ row-after (mark-to p h s value) st row
+unfolding unit-of
+mark-changes st st′ row row′ p h s value eu er =
+    let g : Shape = shape-in (st .layout) (length row) in
+    let c : ℕ = standing st (length row) in
+    let first : ℕ = st .layout .first in
+    ⊎-elim
+    (λ (t : is-place g c h s ≡ true).
+    let fit = row-holds (st .layout) (length row) c h s t in
+    same-unit st st′ (set row (first + slot-at g c h s) (with-bit p value (getD row (first + slot-at g c h s) 0))) row′
+    (eu ∙ sym (written st row _ _ ∙ mark-set g (lines-of st) c first row h s t fit p value))
+    (er ∙ sym (rest-written st row _ _ ∙ ap (memory (length row) first) (mark-rest g (lines-of st) c first row h s t fit p value)))
+    ∙ sym (cond-true _ _ _ t))
+    (λ (n : is-place g c h s ≡ false).
+    same-unit st st′ row row′ (eu ∙ no-mark-changes p h s value (unit-of st row) n) er ∙ sym (cond-false _ _ _ n))
+    (cases-bool (is-place g c h s))
+
+byte-changes : (st st′ : State) (row row′ : List ℕ) (p : Part) (h s i value : ℕ) → unit-of st′ row′ ≡ with-byte p h s i value (unit-of st row) → rest-of st′ row′ ≡ rest-of st row → row′ ≡ row-after (byte-to p h s i value) st row
+unfolding unit-of
+byte-changes st st′ row row′ p h s i value eu er =
+    let g : Shape = shape-in (st .layout) (length row) in
+    let c : ℕ = standing st (length row) in
+    let first : ℕ = st .layout .first in
+    ⊎-elim
+    (λ (t : is-byte g p c h s i ≡ true).
+    let there : is-place g c h s ≡ true = and-parts _ _ t .0 in
+    let li : i < part-size g p = ltb-true _ _ (and-parts _ _ t .1) in
+    let fit = row-holds (st .layout) (length row) c h s there in
+    same-unit st st′ (set row (first + slot-at g c h s + (part-start p + i)) value) row′
+    (eu ∙ sym (written st row _ _ ∙ byte-set g (lines-of st) c first row h s there fit p i value li))
+    (er ∙ sym (rest-written st row _ _ ∙ ap (memory (length row) first) (byte-rest g (lines-of st) c first row h s there fit p i value li)))
+    ∙ sym (cond-true _ _ _ t))
+    (λ (n : is-byte g p c h s i ≡ false).
+    same-unit st st′ row row′ (eu ∙ no-byte-changes p h s i value (unit-of st row) n) er ∙ sym (cond-false _ _ _ n))
+    (cases-bool (is-byte g p c h s i))
+
+pub exactly-that-byte : Exactly-that-byte-changes
+unfolding with-cylinder with-line
+exactly-that-byte st st′ row row′ (step direction) eu er = every-byte st′ st row′ row (ap (λ (d : Drive). d .shape) eu) (ap (λ (d : Drive). d .marks) eu) (ap (λ (d : Drive). d .bytes) eu) er
+exactly-that-byte st st′ row row′ (line-to line value) eu er = every-byte st′ st row′ row (ap (λ (d : Drive). d .shape) eu) (ap (λ (d : Drive). d .marks) eu) (ap (λ (d : Drive). d .bytes) eu) er
+exactly-that-byte st st′ row row′ (mark-to p h s value) eu er = mark-changes st st′ row row′ p h s value eu er
+exactly-that-byte st st′ row row′ (byte-to p h s i value) eu er = byte-changes st st′ row row′ p h s i value eu er

@@ -14,12 +14,14 @@ pub fn changes_stand() -> u8
     0
 }
 
-ghost use Rattle.laws.specs.OfRows.{Where-things-lie, Every-byte-is-named};
+ghost use Rattle.laws.specs.OfRows.{Where-things-lie, Every-byte-is-named, Exactly-that-byte-changes};
 
-// Where a unit's marks and bytes lie in its row, and that its meaning and what the row holds besides are all of it.
+// Where a unit's marks and bytes lie in its row, that its meaning and its rest are all of the row, and what a change
+// does to the row.
 pub fn rows_stand() -> u8
     ensures lie { λ _. ⌜ Where-things-lie ⌝ }
     ensures named { λ _. ⌜ Every-byte-is-named ⌝ }
+    ensures exactly { λ _. ⌜ Exactly-that-byte-changes ⌝ }
 {
     0
 }

@@ -67,7 +67,7 @@ no-byte-changes p h s i value d e =
     (fun-ext (λ p′. fun-ext (λ c′. fun-ext (λ h′. fun-ext (λ s′. fun-ext (λ i′. cond-false _ _ _ (and-left _ _ e)))))))
 
 -- a unit by its parts
-abbrev over : Shape → (Line → Bool) → ℕ → ℕ → List ℕ → Drive
+abbrev pub over : Shape → (Line → Bool) → ℕ → ℕ → List ℕ → Drive
 over g lines n first row = record { shape = g; lines = lines; held = false; cylinder = n; marks = marks-in g first row; bytes = bytes-in g first row }
 
 -- a place that stands in the row: what shows there, and what a write means
@@ -96,7 +96,7 @@ module _ (g : Shape) (lines : Line → Bool) (c first : ℕ) (row : List ℕ) (h
   unfolding bytes-in
   no-byte-shows p i l = cond-false _ _ _ (past p i l)
 
-  mark-set : (p : Part) (value : Bool) → over g lines c first (set row (first + slot-at g c h s) (with-bit p value (getD row (first + slot-at g c h s) 0))) ≡ with-mark p h s value (over g lines c first row)
+  pub mark-set : (p : Part) (value : Bool) → over g lines c first (set row (first + slot-at g c h s) (with-bit p value (getD row (first + slot-at g c h s) 0))) ≡ with-mark p h s value (over g lines c first row)
   unfolding with-mark
   mark-set p value =
       let v : ℕ = with-bit p value (getD row (first + slot-at g c h s) 0) in
@@ -112,7 +112,7 @@ module _ (g : Shape) (lines : Line → Bool) (c first : ℕ) (row : List ℕ) (h
           let y = mark-shows p′ in
           grind (arith, tells)
 
-  byte-set : (p : Part) (i value : ℕ) → i < part-size g p → over g lines c first (set row (first + slot-at g c h s + (part-start p + i)) value) ≡ with-byte p h s i value (over g lines c first row)
+  pub byte-set : (p : Part) (i value : ℕ) → i < part-size g p → over g lines c first (set row (first + slot-at g c h s + (part-start p + i)) value) ≡ with-byte p h s i value (over g lines c first row)
   unfolding with-byte
   byte-set p i value li =
       let l : first + slot-at g c h s + (part-start p + i) < length row = omega (arith, inside-row, part-inside g p i li) in
@@ -120,24 +120,24 @@ module _ (g : Shape) (lines : Line → Bool) (c first : ℕ) (row : List ℕ) (h
       (fun-ext (λ p′. fun-ext (λ c′. fun-ext (λ h′. fun-ext (λ s′. marks-stay g first row c h s value there p i li l p′ c′ h′ s′)))))
       (fun-ext (λ p′. fun-ext (λ c′. fun-ext (λ h′. fun-ext (λ s′. fun-ext (λ i′. bytes-of g first row c h s value there p i li l p′ c′ h′ s′ i′))))))
 
-  mark-rest : (p : Part) (value : Bool) → besides g first (set row (first + slot-at g c h s) (with-bit p value (getD row (first + slot-at g c h s) 0))) ≡ besides g first row
+  pub mark-rest : (p : Part) (value : Bool) → besides g first (set row (first + slot-at g c h s) (with-bit p value (getD row (first + slot-at g c h s) 0))) ≡ besides g first row
   mark-rest p value =
       let k : first + slot-at g c h s + 0 ≡ first + slot-at g c h s = omega arith in
       ap (λ x. besides g first (set row x (with-bit p value (getD row (first + slot-at g c h s) 0)))) (sym k)
       ∙ fun-ext (rest-stays g first row c h s 0 (with-bit p value (getD row (first + slot-at g c h s) 0)) there (omega arith) fit (bits-kept p value _ ∙ ap (λ x. getD row x 0 / 4) (sym k)))
 
-  byte-rest : (p : Part) (i value : ℕ) → i < part-size g p → besides g first (set row (first + slot-at g c h s + (part-start p + i)) value) ≡ besides g first row
+  pub byte-rest : (p : Part) (i value : ℕ) → i < part-size g p → besides g first (set row (first + slot-at g c h s + (part-start p + i)) value) ≡ besides g first row
   byte-rest p i value li =
       fun-ext (rest-stays g first row c h s (part-start p + i) value there (part-inside g p i li) fit (let w = part-after p i in grind (arith, tells)))
 
 module _ (st : State) (row : List ℕ) where
   -- a write leaves the row's length, and so the shape, alone
-  written : (k v : ℕ) → unit-of st (set row k v) ≡ over (shape-in (st .layout) (length row)) (lines-of st) (standing st (length row)) (st .layout .first) (set row k v)
+  pub written : (k v : ℕ) → unit-of st (set row k v) ≡ over (shape-in (st .layout) (length row)) (lines-of st) (standing st (length row)) (st .layout .first) (set row k v)
   unfolding unit-of
   written k v = ap (λ n. over (shape-in (st .layout) n) (lines-of st) (standing st n) (st .layout .first) (set row k v)) (length-set row k v)
 
-  rest-written : (k v : ℕ) → rest-of st (set row k v) ≡ memory (length row) (besides (shape-in (st .layout) (length row)) (st .layout .first) (set row k v))
-  rest-written k v = ap (λ n. memory n (besides (shape-in (st .layout) n) (st .layout .first) (set row k v))) (length-set row k v)
+  pub rest-written : (k v : ℕ) → rest-of st (set row k v) ≡ memory (length row) (st .layout .first) (besides (shape-in (st .layout) (length row)) (st .layout .first) (set row k v))
+  rest-written k v = ap (λ n. memory n (st .layout .first) (besides (shape-in (st .layout) n) (st .layout .first) (set row k v))) (length-set row k v)
 
   module _ (u h s : ℕ) where
     pub missing : (u ≡ 0 → is-place (shape-in (st .layout) (length row)) (standing st (length row)) h s ≡ false) → Missing st row u h s
@@ -165,9 +165,9 @@ module _ (st : State) (row : List ℕ) where
             byte = λ p i l. ap (λ d. byte-here d p h s i) (here d u at-0) ∙ byte-shows g (lines-of st) c first row h s there fit p i l;
             no-byte = λ p i l. ap (λ d. byte-here d p h s i) (here d u at-0) ∙ no-byte-shows g (lines-of st) c first row h s there fit p i l;
             set-mark = λ p value. ap (λ d. d ∷ []) (written _ _ ∙ mark-set g (lines-of st) c first row h s there fit p value) ∙ sym (changed-here d u (with-mark p h s value) at-0);
-            set-mark-rest = λ p value. rest-written _ _ ∙ ap (memory (length row)) (mark-rest g (lines-of st) c first row h s there fit p value);
+            set-mark-rest = λ p value. rest-written _ _ ∙ ap (memory (length row) first) (mark-rest g (lines-of st) c first row h s there fit p value);
             set-byte = λ p i value l. ap (λ d. d ∷ []) (written _ _ ∙ byte-set g (lines-of st) c first row h s there fit p i value l) ∙ sym (changed-here d u (with-byte p h s i value) at-0);
-            set-byte-rest = λ p i value l. rest-written _ _ ∙ ap (memory (length row)) (byte-rest g (lines-of st) c first row h s there fit p i value l);
+            set-byte-rest = λ p i value l. rest-written _ _ ∙ ap (memory (length row) first) (byte-rest g (lines-of st) c first row h s there fit p i value l);
             no-set-byte = λ p i value l. changes-none d u (with-byte p h s i value) (λ e. no-byte-changes p h s i value d (past g (lines-of st) c first row h s there fit p i l));
           }
 

@@ -53,4 +53,4 @@ alone st row = unit-of st row ∷ []
 
 -- what its row holds besides
 abbrev pub rest-of : State → List ℕ → Rest
-rest-of st row = memory (length row) (besides (shape-in (st .layout) (length row)) (st .layout .first) row)
+rest-of st row = memory (length row) (st .layout .first) (besides (shape-in (st .layout) (length row)) (st .layout .first) row)

@@ -41,10 +41,16 @@ impl State {
         ensures { λ r. ⌜ shape-of r ≡ shape-in (self .layout) size ⌝ }
     {
         let l = self.layout;
-        if l.cylinders < 1 || l.cylinders > 2048 || l.heads < 1 || l.heads > 8 {
+        if l.cylinders < 1 || l.cylinders > 2048 {
             return Geometry::none();
         }
-        if l.slots < 1 || l.slots > 32 || l.length < 128 || l.length > 4095 {
+        if l.heads < 1 || l.heads > 8 {
+            return Geometry::none();
+        }
+        if l.slots < 1 || l.slots > 32 {
+            return Geometry::none();
+        }
+        if l.length < 128 || l.length > 4095 {
             return Geometry::none();
         }
         let area = l.cylinders as usize
