@@ -6,7 +6,7 @@ use std::alloc::{AllocError, Global};
 
 // The check of the bytes, byte after byte.
 pub fn check_of<R: CheckRule>(rule: &R, start: Start, bytes: &[u8]) -> u32
-    ensures { result ≡ check_of (generator rule.now) (degree rule.now) (start_value start (degree rule.now)) bytes.now }
+    ensures { result ≡ check_of (R.generator rule.now) (R.degree rule.now) (start_value start (R.degree rule.now)) bytes.now }
 {
     let mut register = start_register(rule, start);
     for byte in bytes {
@@ -17,7 +17,7 @@ pub fn check_of<R: CheckRule>(rule: &R, start: Start, bytes: &[u8]) -> u32
 
 // Byte `i` of a check as it stands on the drive, high byte first; 0 past its width.
 pub fn check_byte<R: CheckRule>(rule: &R, check: u32, i: u8) -> u8
-    ensures { result ≡ slice_index (check_bytes (degree rule.now / 8) check) i }
+    ensures { result ≡ slice_index (check_bytes (R.degree rule.now / 8) check) i }
 {
     let width = rule.width();
     if i >= width {
@@ -33,7 +33,7 @@ pub fn check_bytes_of<R: CheckRule>(
     start: Start,
     bytes: &[u8],
 ) -> Result<Vec<u8>, AllocError>
-    ensures { IfOk result (λ v. v.items ≡ check_bytes (degree rule.now / 8) (check_of (generator rule.now) (degree rule.now) (start_value start (degree rule.now)) bytes.now)) }
+    ensures { IfOk result (λ v. v.items ≡ check_bytes (R.degree rule.now / 8) (check_of (R.generator rule.now) (R.degree rule.now) (start_value start (R.degree rule.now)) bytes.now)) }
 {
     let check = check_of(rule, start, bytes);
     let mut list = Vec::new(heap);

@@ -1,4 +1,6 @@
 // Check bytes: the remainder of a byte string, as a polynomial over GF(2), by a generator polynomial.
+#![tactic(auto)]
+
 pub mod check;
 pub mod crc;
 mod halves;

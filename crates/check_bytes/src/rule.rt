@@ -30,7 +30,7 @@ pub trait CheckRule {
 
 // The register before the first byte.
 pub fn start_register<R: CheckRule>(rule: &R, start: Start) -> u32
-    ensures { result ≡ start_value start (degree rule.now) }
+    ensures { result ≡ start_value start (R.degree rule.now) }
 {
     match start {
         Start::Zeros => 0,

@@ -1,4 +1,6 @@
 // Strings of drives: what hangs behind the controller, behind one interface.
+#![tactic(auto)]
+
 pub mod bay;
 pub mod collar;
 pub mod geometry;

@@ -1,4 +1,6 @@
 // The bytes that a unit stands over: lent, owned, a cartridge's own, or any of a rack.
+#![tactic(auto)]
+
 pub mod bytes;
 pub mod cells;
 pub mod lent;

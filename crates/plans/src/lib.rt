@@ -1,4 +1,6 @@
 // Signal plans as they are stored, one to a disk sector: the record and its bytes.
+#![tactic(auto)]
+
 ghost use Rattle.plans.specs.Theorems.{TestsAreTheRules, EachPlanIsLegal, EncodingIsReadBack, AcceptedIsAPlan, BytesTellPlansApart};
 
 pub mod fault;

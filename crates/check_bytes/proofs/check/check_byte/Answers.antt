@@ -12,6 +12,6 @@ pub returns : goal.returns
 returns g c =
     let n : ℕ = g.R.CheckRule.degree c.args.rule.now in
     let w : n / 8 ≡ c.width-width.result = omega (arith, c.width-width.ensures) in
-    c.byte-at.ensures
+    c.byte_at.ensures
     ∙ sym (byte_inside c.width-width.result c.args.check c.args.i c.if-i-width.false)
     ∙ ap (λ k. get_or (check_bytes k c.args.check) c.args.i 0) (sym w)

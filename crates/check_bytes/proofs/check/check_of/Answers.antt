@@ -7,14 +7,14 @@ pub loop-byte-init : goal.loop-byte-init
 loop-byte-init g c =
     let rule = c.args.rule.now in
     let n : ℕ = g.R.CheckRule.degree rule in
-    holds_none (g.R.CheckRule.generator rule) n c.start-register-register.result (subst (λ (x : ℕ). x < 2 ^ n) (sym c.start-register-register.ensures) (start_lt c.args.start n))
+    holds_none (g.R.CheckRule.generator rule) n c.start_register-register.result (subst (λ (x : ℕ). x < 2 ^ n) (sym c.start_register-register.ensures) (start_lt c.args.start n))
 
 pub loop-byte-preserved : goal.loop-byte-preserved
 loop-byte-preserved g c =
     let rule = c.args.rule.now in
     let bytes : List ℕ = c.args.bytes.now in
     let i : ℕ = c.loop-byte.byte-index in
-    let s : ℕ = c.start-register-register.result in
+    let s : ℕ = c.start_register-register.result in
     subst (Holds (g.R.CheckRule.generator rule) (g.R.CheckRule.degree rule) s (take (i + 1) bytes)) (sym c.feed-register.ensures)
     (holds_more (g.R.CheckRule.generator rule) (g.R.CheckRule.degree rule) s bytes i c.loop-byte.register (g.met.R.CheckRule.shaped rule) c.loop-byte-test.true (search rules) c.loop-byte.invariant)
 
@@ -22,7 +22,7 @@ pub returns : goal.returns
 returns g c =
     let rule = c.args.rule.now in
     let bytes : List ℕ = c.args.bytes.now in
-    let s : ℕ = c.start-register-register.result in
+    let s : ℕ = c.start_register-register.result in
     holds_all (g.R.CheckRule.generator rule) (g.R.CheckRule.degree rule) s (take c.loop-byte.byte-index bytes) c.loop-byte.register (g.met.R.CheckRule.shaped rule) c.loop-byte.invariant
     ∙ ap (check_of (g.R.CheckRule.generator rule) (g.R.CheckRule.degree rule) s) (take_all _ _ c.loop-byte-test.false)
-    ∙ ap (λ s. check_of (g.R.CheckRule.generator rule) (g.R.CheckRule.degree rule) s bytes) c.start-register-register.ensures
+    ∙ ap (λ s. check_of (g.R.CheckRule.generator rule) (g.R.CheckRule.degree rule) s bytes) c.start_register-register.ensures

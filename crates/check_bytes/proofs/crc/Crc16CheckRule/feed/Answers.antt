@@ -11,9 +11,9 @@ pub returns : goal.returns
 returns c =
     let r : ℕ = c.args.register in
     let b : ℕ = c.args.byte in
-    let t : ℕ = c.left-by.result in
+    let t : ℕ = c.left_by.result in
     let hb : b < 256 = search rules in
     let q : ℕ = bit_xor (r % 65536 / 256) b * 65536 in
-    let is : t ≡ remainder crc16 16 8 q = c.left-by.ensures ∙ ap (λ x. remainder crc16 16 8 (bit_xor x b * 65536)) c.high-byte.ensures in
-    ap (bit_xor t) c.low-byte-raised.ensures
-    ∙ fed_by_parts crc16 8 r b t (lit≤ tt, lit< tt) hb c.left-by.type-inv (subst (Same crc16 q) (sym is) (remainder_same crc16 16 8 q))
+    let is : t ≡ remainder crc16 16 8 q = c.left_by.ensures ∙ ap (λ x. remainder crc16 16 8 (bit_xor x b * 65536)) c.high_byte.ensures in
+    ap (bit_xor t) c.low_byte_raised.ensures
+    ∙ fed_by_parts crc16 8 r b t (lit≤ tt, lit< tt) hb c.left_by.type_inv (subst (Same crc16 q) (sym is) (remainder_same crc16 16 8 q))

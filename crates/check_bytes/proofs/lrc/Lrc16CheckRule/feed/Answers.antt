@@ -13,6 +13,6 @@ returns c =
     let high : ℕ = bit_xor (r % 65536 / 256) b in
     let h : r % 65536 / 256 < 256 = omega arith in
     let hh : high < 256 = xor_lt 8 (r % 65536 / 256) b h hb in
-    ap (λ x. bit_xor (bit_xor x b) c.low-byte-raised.result) c.high-byte.ensures
-    ∙ ap (bit_xor high) c.low-byte-raised.ensures
+    ap (λ x. bit_xor (bit_xor x b) c.low_byte_raised.result) c.high_byte.ensures
+    ∙ ap (bit_xor high) c.low_byte_raised.ensures
     ∙ fed_by_parts lrc16 8 r b high (lit≤ tt, lit< tt) hb (omega arith) (folds 16 high hh)
