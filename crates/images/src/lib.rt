@@ -1,4 +1,6 @@
 // Images: a unit over memory of the caller, with the check of its trailer.
+#![tactic(auto)]
+
 pub mod blank;
 pub mod image;
 pub mod layers;

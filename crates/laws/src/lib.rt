@@ -1,4 +1,6 @@
 // Theorems over strings of drives, rows of bytes and images. Each function carries the theorems that its contract names.
+#![tactic(auto)]
+
 ghost use Rattle.laws.specs.OfStrings.{WhatNeverChanges, OtherUnitsStay, HeldStaysProtected, StringsStaySound};
 ghost use Rattle.laws.specs.OfStrings.{MarksReadBack, BytesReadBack};
 

@@ -1,5 +1,7 @@
 // What the controller keeps besides its string of drives: buffer, setting, running command, status, unit records; and
 // what follows from these alone.
+#![tactic(auto)]
+
 mod bits;
 pub mod buffer;
 pub mod command;

@@ -6,11 +6,11 @@ use Rattle.plans.proofs.rules.fault_of_stages.Goals as goal
 
 pub returns-in-Some : goal.returns-in-Some
 returns-in-Some c =
-    stage_fault_found _ _ c.loop-stage-test.true _ _ _ c.fault-of-stage.ensures c.in-Some.is ∙ c.loop-stage.invariant.1
+    stage_fault_found _ _ c.loop-stage-test.true _ _ _ c.fault_of_stage.ensures c.in-Some.is ∙ c.loop-stage.invariant.1
 
 pub loop-stage-preserved : goal.loop-stage-preserved
 loop-stage-preserved c =
-    (omega arith, stage_fault_more _ _ c.loop-stage-test.true _ _ c.fault-of-stage.ensures c.in-default.is ∙ c.loop-stage.invariant.1)
+    (omega arith, stage_fault_more _ _ c.loop-stage-test.true _ _ c.fault_of_stage.ensures c.in_default.is ∙ c.loop-stage.invariant.1)
 
 pub returns : goal.returns
 returns c =

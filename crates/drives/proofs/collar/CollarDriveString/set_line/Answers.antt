@@ -14,6 +14,6 @@ returns-in-Protect g c =
 
 pub returns-in-Ready : goal.returns-in-Ready
 returns-in-Ready g c = record {
-  meaning = ap all_held c.set-line.ensures.meaning ∙ held_set_line _ c.args.line c.in-Ready.is c.args.unit c.args.value;
-  rest = c.set-line.ensures.rest;
+  meaning = ap all_held c.set_line.ensures.meaning ∙ held_set_line _ c.args.line c.in-Ready.is c.args.unit c.args.value;
+  rest = c.set_line.ensures.rest;
 }

@@ -16,14 +16,14 @@ returns-in-Some c =
     inr
     (sym
     (decoded_padding c.args.bytes.now long c.if-s-ne83.false c.if-p-ne80.false c.if-version-ne-VERSION.false
-    _ c.in-ok-stages.ensures _ _ c.end-of.ensures c.in-Some.ensures))
+    _ c.in_ok-stages.ensures _ _ c.end_of.ensures c.in-Some.ensures))
 
 pub returns : goal.returns
 returns c =
     let long : 9 ≤ length c.args.bytes.now = omega (arith, ltb-false) in
     answered_told c.new.result _
     (c.new.ensures
-    ∙ judged_with c.args.bytes.now (vec_items c.in-ok-stages.stages) _ c.from-be-bytes-junction.ensures
+    ∙ judged_with c.args.bytes.now (vec_items c.in_ok-stages.stages) _ c.from_be_bytes-junction.ensures
     ∙ sym
     (decoded_padding c.args.bytes.now long c.if-s-ne83.false c.if-p-ne80.false c.if-version-ne-VERSION.false
-    _ c.in-ok-stages.ensures _ _ c.end-of.ensures c.in-default-first-stray.ensures))
+    _ c.in_ok-stages.ensures _ _ c.end_of.ensures c.in-default-first-stray.ensures))

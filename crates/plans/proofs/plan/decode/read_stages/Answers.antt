@@ -34,7 +34,7 @@ loop-i-preserved c =
     let enough : 3 ≤ length c.loop-i.rest.now = omega (arith, ltb-false) in
     let e : c.args.count - c.loop-i.i ≡ suc (c.args.count - (c.loop-i.i + 1)) = omega arith in
     stages_more _ _ (c.loop-i.i + 1) c.loop-i.rest.now _ _ (vec_items c.loop-i.stages) (vec_items c.push.new.self)
-    e enough c.from-code.ensures c.in-Some.is c.in-ok-push.ensures.items
+    e enough c.from_code.ensures c.in-Some.is c.in_ok-push.ensures.items
     ∙ c.loop-i.invariant
 
 pub returns : goal.returns
