@@ -1,4 +1,6 @@
 // An area master's task: the signal plan of a junction, its record, and the check bytes that guard it on the drive.
+#![tactic(auto)]
+
 mod rack;
 mod sample;
 mod text;

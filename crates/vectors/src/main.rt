@@ -1,5 +1,7 @@
 // Compares check bytes with values given elsewhere, and over a dozen further byte strings with a plain long division.
 // It prints a table, and ends with an error where one differs.
+#![tactic(auto)]
+
 mod cases;
 mod division;
 mod published;

@@ -13,10 +13,10 @@ asked c h s l g e = grind (arith, nat_tests)
 pub returns : goal.returns
 returns c =
     let a = c.args in
-    let g = shape_of c.in-ok-geometry.geometry in
-    let e : g ≡ record { cylinders = a.cylinders; heads = a.heads; slots = a.slots; length = a.length } = asked a.cylinders a.heads a.slots a.length g c.in-ok-geometry.ensures in (
-      sym c.in-ok-geometry.ensures ∙ ap Ok e,
-      c.in-ok-extend-from-slice.ensures.items
-          ∙ ap₂ ◌++◌ (c.in-ok-bytes.ensures.items-if-clones-equal (λ y h. h) ∙ ap (λ n. replicate n 0) c.area.ensures) c.trailer-of.ensures
+    let g = shape_of c.in_ok-geometry.geometry in
+    let e : g ≡ record { cylinders = a.cylinders; heads = a.heads; slots = a.slots; length = a.length } = asked a.cylinders a.heads a.slots a.length g c.in_ok-geometry.ensures in (
+      sym c.in_ok-geometry.ensures ∙ ap Ok e,
+      c.in_ok-extend_from_slice.ensures.items
+          ∙ ap₂ ◌++◌ (c.in_ok-bytes.ensures.items_if_clones_equal (λ y h. h) ∙ ap (λ n. replicate n 0) c.area.ensures) c.trailer_of.ensures
           ∙ ap blank e,
     )

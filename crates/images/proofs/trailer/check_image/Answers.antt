@@ -3,13 +3,13 @@ use Rattle.std.proofs.lemmas.Bool.Decides.{nat_tests}
 use Rattle.images.specs.Trailer.{verdict}
 use Rattle.images.proofs.trailer.check_image.Goals as goal
 
-pub returns-in-default : goal.returns-in-default
+pub returns-in_default : goal.returns-in_default
 unfolding verdict
-returns-in-default c = grind (arith, nat_tests)
+returns-in_default c = grind (arith, nat_tests)
 
-pub returns-then-not-is-mark : goal.returns-then-not-is-mark
+pub returns-then-not-is_mark : goal.returns-then-not-is_mark
 unfolding verdict
-returns-then-not-is-mark c = grind (arith, nat_tests)
+returns-then-not-is_mark c = grind (arith, nat_tests)
 
 pub returns : goal.returns
 unfolding verdict

@@ -11,7 +11,7 @@ loop-i-init g c = (refl, tt)
 pub loop-i-preserved : goal.loop-i-preserved
 loop-i-preserved g c =
     let place = c.args.place in
-    spells (drive (g.S.DriveString.meaning c.args.string.now) place.unit) place.head.0 place.slot.0 c.args.from c.loop-i.i _ c.loop-i.found c.field-byte.result refl c.field-byte.type-inv c.field-byte.ensures c.loop-i.invariant
+    spells (drive (g.S.DriveString.meaning c.args.string.now) place.unit) place.head.0 place.slot.0 c.args.from c.loop-i.i _ c.loop-i.found c.field_byte.result refl c.field_byte.type_inv c.field_byte.ensures c.loop-i.invariant
 
 pub returns : goal.returns
 returns g c =
@@ -20,14 +20,14 @@ returns g c =
     let all : c.loop-i.i ≡ c.args.width = omega arith in
     c.loop-i.invariant.0 ∙ ap (λ i. message (field_bytes d place.head.0 place.slot.0 c.args.from i)) all
 
-pub overflow-mul-found : goal.overflow-mul-found
-overflow-mul-found g c =
+pub overflow_mul-found : goal.overflow_mul-found
+overflow_mul-found g c =
     let place = c.args.place in
     let d = drive (g.S.DriveString.meaning c.args.string.now) place.unit in
     omega (arith, c.loop-i.invariant.0, few d place.head.0 place.slot.0 c.args.from c.loop-i.i (omega arith) c.loop-i.invariant.1)
 
-pub overflow-add-found : goal.overflow-add-found
-overflow-add-found g c =
+pub overflow_add-found : goal.overflow_add-found
+overflow_add-found g c =
     let place = c.args.place in
     let d = drive (g.S.DriveString.meaning c.args.string.now) place.unit in
-    omega (arith, c.loop-i.invariant.0, c.field-byte.type-inv, few d place.head.0 place.slot.0 c.args.from c.loop-i.i (omega arith) c.loop-i.invariant.1)
+    omega (arith, c.loop-i.invariant.0, c.field_byte.type_inv, few d place.head.0 place.slot.0 c.args.from c.loop-i.i (omega arith) c.loop-i.invariant.1)

@@ -8,8 +8,8 @@ loop-slot-init g c = (lowered_none _ c.args.unit c.args.head.0, refl)
 
 pub loop-slot-preserved : goal.loop-slot-preserved
 loop-slot-preserved g c = (
-  lowered_more _ c.args.unit c.args.head.0 c.loop-slot.slot _ _ _ c.loop-slot.invariant.0 c.set_mark.ensures.meaning c.set-mark-in-loop-slot.ensures.meaning,
-  c.set-mark-in-loop-slot.ensures.rest ∙ (c.set_mark.ensures.rest ∙ c.loop-slot.invariant.1),
+  lowered_more _ c.args.unit c.args.head.0 c.loop-slot.slot _ _ _ c.loop-slot.invariant.0 c.set_mark.ensures.meaning c.set_mark-in-loop-slot.ensures.meaning,
+  c.set_mark-in-loop-slot.ensures.rest ∙ (c.set_mark.ensures.rest ∙ c.loop-slot.invariant.1),
 )
 
 pub returns : goal.returns

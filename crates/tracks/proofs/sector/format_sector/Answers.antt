@@ -5,8 +5,8 @@ use Rattle.tracks.proofs.sector.format_sector.Goals as goal
 
 pub returns : goal.returns
 returns g c =
-    let ids = c.args.id-rule.now in
-    let fields = c.args.data-rule.now in
+    let ids = c.args.id_rule.now in
+    let fields = c.args.data_rule.now in
     let nᵢ : ℕ = g.I.CheckRule.degree ids in
     let n : ℕ = g.D.CheckRule.degree fields in
     let p = c.args.place in

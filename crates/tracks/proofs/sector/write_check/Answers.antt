@@ -11,8 +11,8 @@ loop-i-init g c = (bytes_none _ _ _ _ _ _ _, refl)
 pub loop-i-preserved : goal.loop-i-preserved
 loop-i-preserved g c =
     let p = c.args.place in (
-      bytes_more _ p.unit Data p.head.0 p.slot.0 c.args.length (λ k. get_or (check_bytes (g.R.CheckRule.degree c.args.rule.now / 8) c.field-check-check.result.right) k 0) c.loop-i.i (c.args.length + c.loop-i.i) c.check-byte-byte.result refl c.check-byte-byte.ensures _ _ c.loop-i.invariant.0 c.set-field-byte.ensures.meaning,
-      c.set-field-byte.ensures.rest ∙ c.loop-i.invariant.1,
+      bytes_more _ p.unit Data p.head.0 p.slot.0 c.args.length (λ k. get_or (check_bytes (g.R.CheckRule.degree c.args.rule.now / 8) c.field_check-check.result.right) k 0) c.loop-i.i (c.args.length + c.loop-i.i) c.check_byte-byte.result refl c.check_byte-byte.ensures _ _ c.loop-i.invariant.0 c.set_field_byte.ensures.meaning,
+      c.set_field_byte.ensures.rest ∙ c.loop-i.invariant.1,
     )
 
 pub returns : goal.returns
@@ -23,6 +23,6 @@ returns g c =
     let w : 8 * c.width-i-end.result ≡ n = c.width-i-end.ensures in
     let all : c.loop-i.i ≡ n / 8 = omega arith in
     record {
-      meaning = c.loop-i.invariant.0 ∙ check_all _ p.unit (g.R.CheckRule.generator rule) n (start_value c.args.start n) p.head.0 p.slot.0 c.args.length c.field-check-check.result.right (ap (λ (x : CheckPair). x.right) c.field-check-check.ensures) c.loop-i.i all;
+      meaning = c.loop-i.invariant.0 ∙ check_all _ p.unit (g.R.CheckRule.generator rule) n (start_value c.args.start n) p.head.0 p.slot.0 c.args.length c.field_check-check.result.right (ap (λ (x : CheckPair). x.right) c.field_check-check.ensures) c.loop-i.i all;
       rest = c.loop-i.invariant.1;
     }

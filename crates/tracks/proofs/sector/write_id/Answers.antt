@@ -12,7 +12,7 @@ pub loop-i-preserved : goal.loop-i-preserved
 loop-i-preserved g c =
     let p = c.args.place in
     let at : c.loop-i.i ≡ 0 + c.loop-i.i = omega arith in (
-      bytes_more _ p.unit Id p.head.0 p.slot.0 0 (λ k. get_or c.id-bytes-bytes.result k 0) c.loop-i.i c.loop-i.i _ at refl _ _ c.loop-i.invariant.0 c.set_byte.ensures.meaning,
+      bytes_more _ p.unit Id p.head.0 p.slot.0 0 (λ k. get_or c.id_bytes-bytes.result k 0) c.loop-i.i c.loop-i.i _ at refl _ _ c.loop-i.invariant.0 c.set_byte.ensures.meaning,
       c.set_byte.ensures.rest ∙ c.loop-i.invariant.1,
     )
 
@@ -25,7 +25,7 @@ returns g c =
     record {
       meaning =
           c.loop-i.invariant.0
-          ∙ ap (λ n. changed ds p.unit (with_bytes Id p.head.0 p.slot.0 0 (λ k. get_or c.id-bytes-bytes.result k 0) n)) all
-          ∙ ap (λ (xs : List ℕ). changed ds p.unit (with_bytes Id p.head.0 p.slot.0 0 (λ k. get_or xs k 0) 6)) c.id-bytes-bytes.ensures;
+          ∙ ap (λ n. changed ds p.unit (with_bytes Id p.head.0 p.slot.0 0 (λ k. get_or c.id_bytes-bytes.result k 0) n)) all
+          ∙ ap (λ (xs : List ℕ). changed ds p.unit (with_bytes Id p.head.0 p.slot.0 0 (λ k. get_or xs k 0) 6)) c.id_bytes-bytes.ensures;
       rest = c.loop-i.invariant.1;
     }

@@ -3,12 +3,12 @@ use Rattle.std.proofs.lemmas.Result.{err_from_is_err_and}
 use Rattle.plans.proofs.Heads.{broke_off, decoded_padding, judged_with, answered_told}
 use Rattle.plans.proofs.plan.Plan.decode.Goals as goal
 
-pub returns-in-err-stages : goal.returns-in-err-stages
-returns-in-err-stages c =
+pub returns-in_err-stages : goal.returns-in_err-stages
+returns-in_err-stages c =
     let long : 9 ≤ length c.args.bytes.now = omega (arith, ltb-false) in
-    let p = err_from_is_err_and c.from-residual.result c.from-residual.ensures.1 in
+    let p = err_from_is_err_and c.from_residual.result c.from_residual.ensures.1 in
     broke_off c.args.bytes.now long c.if-s-ne83.false c.if-p-ne80.false c.if-version-ne-VERSION.false
-    c.from-residual.result c.in-err-stages.field-0.0 (p.1 ∙ ap Err p.2) c.in-err-stages.ensures
+    c.from_residual.result c.in_err-stages.field-0.0 (p.1 ∙ ap Err p.2) c.in_err-stages.ensures
 
 pub returns-in-Some : goal.returns-in-Some
 returns-in-Some c =
@@ -26,4 +26,4 @@ returns c =
     ∙ judged_with c.args.bytes.now (vec_items c.in_ok-stages.stages) _ c.from_be_bytes-junction.ensures
     ∙ sym
     (decoded_padding c.args.bytes.now long c.if-s-ne83.false c.if-p-ne80.false c.if-version-ne-VERSION.false
-    _ c.in_ok-stages.ensures _ _ c.end_of.ensures c.in-default-first-stray.ensures))
+    _ c.in_ok-stages.ensures _ _ c.end_of.ensures c.in_default-first_stray.ensures))

@@ -11,22 +11,22 @@ loop-i-init c =
     ∙ onto_nil (stages_in (c.args.count - 0) 1 c.args.bytes.now)
     ∙ ap (λ n. stages_in n 1 c.args.bytes.now) (sub-zero c.args.count)
 
-pub returns-in-default : goal.returns-in-default
-returns-in-default c =
+pub returns-in_default : goal.returns-in_default
+returns-in_default c =
     let few : length c.loop-i.rest.now < 3 = omega (arith, ltb-true) in
     let e : c.args.count - c.loop-i.i ≡ suc (c.args.count - (c.loop-i.i + 1)) = omega arith in
     inr
     (sym (ap (onto (vec_items c.loop-i.stages)) (stages_short _ _ (c.loop-i.i + 1) c.loop-i.rest.now e few))
     ∙ c.loop-i.invariant)
 
-pub returns-in-default-from-code : goal.returns-in-default-from-code
-returns-in-default-from-code c =
+pub returns-in_default-from_code : goal.returns-in_default-from_code
+returns-in_default-from_code c =
     let enough : 3 ≤ length c.loop-i.rest.now = omega (arith, ltb-false) in
     let e : c.args.count - c.loop-i.i ≡ suc (c.args.count - (c.loop-i.i + 1)) = omega arith in
     inr
     (sym
     (ap (onto (vec_items c.loop-i.stages))
-    (stages_unknown _ _ (c.loop-i.i + 1) c.loop-i.rest.now _ e enough c.from-code.ensures c.in-default-from-code.is))
+    (stages_unknown _ _ (c.loop-i.i + 1) c.loop-i.rest.now _ e enough c.from_code.ensures c.in_default-from_code.is))
     ∙ c.loop-i.invariant)
 
 pub loop-i-preserved : goal.loop-i-preserved

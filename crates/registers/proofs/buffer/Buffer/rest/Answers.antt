@@ -8,4 +8,4 @@ unfolding held
 returns c =
     let l : length c.args.self.bytes ≡ 8 = search rules in
     let k : c.args.self.count ≤ 8 = c.args.self.few in
-    simp c.saturating-sub.ensures (shifted c.args.self.bytes c.args.self.count l k)
+    simp c.saturating_sub.ensures (shifted c.args.self.bytes c.args.self.count l k)

@@ -12,17 +12,17 @@ returns-then-place-ne0 g c =
     (λ z. let o = c.then-place-ne0.either in grind (arith, nat_tests))
 
 -- the slot that was found
-at : (g : _) (c : goal.After-struct-known-4·1 g) → Standing c.args.self.now.state (g.M.Memory.contents c.args.self.now.memory) c.args.place.unit c.args.place.head.0 c.args.place.slot.0 (c.args.self.now.state.layout.first + ((c.stands.result * c.geometry-g.result.heads + c.args.place.head.0) * c.geometry-g.result.slots + c.args.place.slot.0) * (c.geometry-g.result.length + 11))
+at : (g : _) (c : goal.After-struct_known-4-1 g) → Standing c.args.self.now.state (g.M.Memory.contents c.args.self.now.memory) c.args.place.unit c.args.place.head.0 c.args.place.slot.0 (c.args.self.now.state.layout.first + ((c.stands.result * c.geometry-g.result.heads + c.args.place.head.0) * c.geometry-g.result.slots + c.args.place.slot.0) * (c.geometry-g.result.length + 11))
 at g c =
     let place = c.args.place in
     found c.args.self.now.state (g.M.Memory.contents c.args.self.now.memory) place.unit place.head.0 place.slot.0 (shape_of c.geometry-g.result) c.size-size.result c.size-size.ensures c.geometry-g.ensures
-    c.stands.result (omega (arith, c.size-size.ensures, c.size-size.type-inv)) c.stands.ensures c.geometry-g.result.bounds c.if-place-ne0.false c.if-head-g.false c.if-slot-g.false
+    c.stands.result (omega (arith, c.size-size.ensures, c.size-size.type_inv)) c.stands.ensures c.geometry-g.result.bounds c.if-place-ne0.false c.if-head-g.false c.if-slot-g.false
 
-pub overflow-mul-result : goal.overflow-mul-result
-overflow-mul-result g c = omega (arith, (at g c).room)
+pub overflow_mul-result : goal.overflow_mul-result
+overflow_mul-result g c = omega (arith, (at g c).room)
 
-pub overflow-add-result-2 : goal.overflow-add-result-2
-overflow-add-result-2 g c = omega (arith, (at g c).room)
+pub overflow_add-result-2 : goal.overflow_add-result-2
+overflow_add-result-2 g c = omega (arith, (at g c).room)
 
 pub returns : goal.returns
 returns g c = at g c

@@ -12,7 +12,7 @@ pub returns : goal.returns
 returns g c =
     let st = c.args.self.now.state in
     let row = g.M.Memory.contents c.args.self.now.memory in
-    let next = c.next-cylinder-self.ensures ∙ ap₂ (next_cylinder c.args.direction) (ap (λ (x : Shape). x.cylinders) c.shape-cylinders.ensures) c.stands-stands.ensures in
+    let next = c.next_cylinder-self.ensures ∙ ap₂ (next_cylinder c.args.direction) (ap (λ (x : Shape). x.cylinders) c.shape-cylinders.ensures) c.stands-stands.ensures in
     record {
       meaning = ap (λ n. alone (at_cylinder n st) row) next ∙ heads_moved c.args.direction st row c.args.unit c.if-unit-ne0.false;
       rest = refl;
