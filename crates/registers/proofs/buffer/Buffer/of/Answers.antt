@@ -6,7 +6,7 @@ use Rattle.registers.proofs.buffer.Buffer.of.Goals as goal
 
 pub loop-byte-preserved : goal.loop-byte-preserved
 loop-byte-preserved c =
-    c.with_buffer.ensures
+    c.with-buffer.ensures
     ∙ simp c.loop-byte.invariant (first_eight_more c.args.bytes.now c.loop-byte.byte-index c.loop-byte-test.true)
 
 pub returns : goal.returns
