@@ -4,6 +4,6 @@ use Rattle.transfers.proofs.format.take_slot.Goals as goal
 
 pub returns : goal.returns
 returns g c =
-    let a = first_four (held c.args.buffer.now) c.requires.1 in
+    let a = first_four (held c.args.buffer.now) c.requires.in_bounds in
     let b = past_four (held c.args.buffer.now) in
     record { state = cc; rest = cc }
