@@ -1,13 +1,13 @@
 -- What is shown of checks.
 use Rattle.std.specs.Prelude.{◌≡◌, ℕ, ◌+◌, ◌*◌, ◌%◌, ◌^◌, ◌<◌, ◌≤◌, List, [], ◌∷◌, ◌++◌, length, codes}
-use Rattle.std.specs.List.{AllByRecursion as All}
+use Rattle.std.specs.List.{AllByRecursion}
 use Rattle.check_bytes.specs.Polynomials.{Degree, IsRemainder, remainder}
 use Rattle.check_bytes.specs.Checks.{check_of, dividend, fed, check_bytes}
 use Rattle.check_bytes.specs.Rules.{crc16, lrc16}
 
 -- all of these are bytes
 abbrev pub Bytes : List ℕ → Type 0
-Bytes bytes = All (λ byte. byte < 2 ^ 8) bytes
+Bytes bytes = AllByRecursion (λ byte. byte < 2 ^ 8) bytes
 
 -- long division leaves a remainder
 abbrev pub DivisionLeavesARemainder : Type 0

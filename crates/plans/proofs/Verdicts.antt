@@ -1,6 +1,6 @@
 -- The tests find no fault exactly where a plan is legal.
 use Rattle.std.proofs.Common.{◌≡◌, ℕ, ◌+◌, ◌<◌, ◌≤◌, Bool, true, false, not, eqb, ltb, leb, List, [], ◌∷◌, length, is_some, Some, None, Option, sym, refl, ap, ◌∙◌, subst, arith}
-use Rattle.std.specs.List.{AllByRecursion as All}
+use Rattle.std.specs.List.{AllByRecursion}
 use Rattle.std.proofs.lemmas.Bool.{and_parts, and_from, leb-true, le-leb, ltb-true, lt-ltb, eqb-true, eq-eqb}
 use Rattle.plans.specs.declared.fault.PlanFault.{PlanFault}
 use Rattle.plans.specs.declared.fault.PlanFault.TheVariants.{NoJunction, NoNumber, CycleOutOfRange, OffsetOutOfRange, StageCount, CycleNotFilled}
@@ -35,13 +35,13 @@ stage_passed n s e h =
     let q = within_parts 3 s.intergreen 15 (unless_none (within 3 s.intergreen 15) _ _ p.1).0 in
     record { green_least = leb-true 4 s.green p.0; green_most = h; intergreen_least = q.0; intergreen_most = q.1 }
 
-stages_passed : (n : ℕ) (ss : List Stage) → stage_fault n ss ≡ None → total ss ≤ 255 → All LegalStage ss
+stages_passed : (n : ℕ) (ss : List Stage) → stage_fault n ss ≡ None → total ss ≤ 255 → AllByRecursion LegalStage ss
 stages_passed n [] e h = tt
 stages_passed n (s ∷ ss) e h =
     let p = or_else_none (times_fault n s) (stage_fault (n + 1) ss) e in
     (stage_passed n s p.0 (omega arith), stages_passed (n + 1) ss p.1 (omega arith))
 
-legal_stages : (n : ℕ) (ss : List Stage) → All LegalStage ss → stage_fault n ss ≡ None
+legal_stages : (n : ℕ) (ss : List Stage) → AllByRecursion LegalStage ss → stage_fault n ss ≡ None
 legal_stages n [] h = refl
 legal_stages n (s ∷ ss) h =
     ap (λ o. or_else o (stage_fault (n + 1) ss))

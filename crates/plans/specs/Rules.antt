@@ -1,6 +1,6 @@
 -- A plan as plain values, and the rules that a legal plan meets.
 use Rattle.std.specs.Prelude.{◌≡◌, ℕ, ◌+◌, ◌<◌, ◌≤◌, Bool, true, false, cond, not, ◌&&◌, List, [], ◌∷◌, length, is_some, Some, None, Ok, Err, Option, Result, ◌==◌, nat_le, nat_lt}
-use Rattle.std.specs.List.{AllByRecursion as All}
+use Rattle.std.specs.List.{AllByRecursion}
 use Rattle.plans.specs.declared.stage.Stage.{Stage}
 use Rattle.plans.specs.declared.fault.PlanFault.{PlanFault}
 use Rattle.plans.specs.declared.fault.PlanFault.TheVariants.{NoJunction, NoNumber, CycleOutOfRange, OffsetOutOfRange, StageCount, GreenTooShort, IntergreenOutOfRange, CycleNotFilled}
@@ -37,7 +37,7 @@ pub record Legal (p : PlanData) : Type 0 where
   pub offset_below : p.offset < p.cycle
   pub stages_least : 2 ≤ length p.stages
   pub stages_most : length p.stages ≤ 8
-  pub each_stage : All LegalStage p.stages
+  pub each_stage : AllByRecursion LegalStage p.stages
   pub filled : total p.stages ≡ p.cycle
 
 -- whether a number lies between two, both included

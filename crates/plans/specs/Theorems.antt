@@ -1,6 +1,6 @@
 -- What makes the record's code exact.
 use Rattle.std.specs.Prelude.{◌≡◌, ℕ, ◌<◌, List, ◌++◌, replicate, None, Ok}
-use Rattle.std.specs.List.{AllByRecursion as All}
+use Rattle.std.specs.List.{AllByRecursion}
 use Rattle.plans.specs.declared.plan.Plan.{Plan}
 use Rattle.plans.specs.Rules.{PlanData, Legal, fault_in}
 use Rattle.plans.specs.Bytes.{encoded, decoded}
@@ -21,7 +21,7 @@ EncodingIsReadBack = (p : PlanData) (k : ℕ) → Legal p → decoded (encoded p
 -- bytes that say a plan are the bytes of that plan with padding, and it is legal
 abbrev pub AcceptedIsAPlan : Type 0
 AcceptedIsAPlan =
-    (bs : List ℕ) (p : PlanData) → All (λ b. b < 256) bs → decoded bs ≡ Ok p →
+    (bs : List ℕ) (p : PlanData) → AllByRecursion (λ b. b < 256) bs → decoded bs ≡ Ok p →
     Legal p × ((k : ℕ) × (bs ≡ encoded p ++ replicate k 0))
 
 -- two legal plans with the same bytes are the same

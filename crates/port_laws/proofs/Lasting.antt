@@ -65,6 +65,14 @@ module _ (t : Transfer) (long : 0 < t.setting.length) where
   stop_fewer_at : (m : Numbers) (e : End) (n : ℕ) → 1 < n → Fewer n (stopped e (with_numbers m t))
   stop_fewer_at m e n l = either_way (Fewer n) (hands_out t.kind) (Going (with_stage (Waiting e) (with_numbers m t))) (Ended e (with_numbers m t)) ((long, tt), l) tt
 
+  -- with a sector fewer to go, the next one's search begins
+  going : (m : Numbers) (next : Numbers) (n : ℕ) → next.count ≡ m.count → (m.count ≡ 0 → ⊥) → m.count * sector_turns t + 2 ≤ n → Fewer n (Going (onward next t))
+  going m next n e some l =
+      let same : next.count * sector_turns t ≡ m.count * sector_turns t = ap (λ c. c * sector_turns t) e in
+      let left : 0 < next.count = omega arith in
+      let fewer : next.count * sector_turns t + 1 < n = omega arith in
+      ((long, left), fewer)
+
   -- a sector is done, and `n` is more than what the others take
   count_fewer : (m : Numbers) (n : ℕ) → m.count * sector_turns t + 2 ≤ n → Fewer n (counted_on m t)
   count_fewer m n l =
@@ -74,7 +82,4 @@ module _ (t : Transfer) (long : 0 < t.setting.length) where
       (stop_fewer_at m end.EndOfCylinder n (omega arith))
       (cond_both (eqb m.count 0) (stopped end.Normal (with_numbers next t)) (Going (onward next t)) (Fewer n)
       (λ _. stop_fewer_at next end.Normal n (omega arith))
-      (λ e. going m.count next.count (advanced_count m) n (λ z. eqb-false m.count 0 e z) l))
-    where
-      x : Unit
-      x = tt
+      (λ e. going m next n refl (λ z. eqb-false m.count 0 e z) l))
