@@ -57,6 +57,12 @@ more_sectors count n l =
     let e : count ≡ (count - 1) + 1 = omega arith in
     omega (arith, ap (λ c. c * n) e, add-mul (count - 1) 1 n)
 
+-- the advance leaves SCNT as it is
+advanced_count : (s : Setting) (m : Numbers) → (advanced s m).count ≡ m.count
+advanced_count s m =
+    either_way (λ (n : Numbers). n.count ≡ m.count) (not (eqb m.address.sector.0 s.last_sector.0)) _ _ refl
+    (either_way (λ (n : Numbers). n.count ≡ m.count) (not (eqb m.address.head.0 s.last_head.0)) _ _ refl refl)
+
 module _ (t : Transfer) (long : 0 < t.setting.length) where
   -- an end that waits takes one more turn
   stop_fewer : (e : End) (n : ℕ) → 1 < n → Fewer n (stopped e t)
@@ -82,4 +88,4 @@ module _ (t : Transfer) (long : 0 < t.setting.length) where
       (stop_fewer_at m end.EndOfCylinder n (omega arith))
       (cond_both (eqb m.count 0) (stopped end.Normal (with_numbers next t)) (Going (onward next t)) (Fewer n)
       (λ _. stop_fewer_at next end.Normal n (omega arith))
-      (λ e. going m next n refl (λ z. eqb-false m.count 0 e z) l))
+      (λ e. going m next n (advanced_count t.setting m) (λ z. eqb-false m.count 0 e z) l))
