@@ -1,5 +1,5 @@
 -- A check and its bytes leave nothing, and damage within the check's width is seen.
-use Rattle.std.proofs.Common.{◌≡◌, ℕ, zero, suc, ◌+◌, ◌*◌, ◌/◌, ◌%◌, ◌^◌, ◌<◌, ◌≤◌, Bool, true, false, List, [], ◌∷◌, ◌++◌, length, sym, refl, ap, ◌∙◌, subst, lt_of_lt_of_le, mod-eq_of_lt, mul_assoc, pow-suc, zero-add, zero-mul, mul-one, mul-add, arith, length-append, pow_pos, pow_mono, pow-add}
+use Rattle.std.proofs.Common.{◌≡◌, ℕ, zero, suc, ◌+◌, ◌*◌, ◌%◌, ◌^◌, ◌<◌, ◌≤◌, true, false, List, [], ◌∷◌, ◌++◌, length, sym, ap, ◌∙◌, subst, lt_of_lt_of_le, mod-eq_of_lt, mul_assoc, pow-suc, zero-add, zero-mul, mul-one, mul-add, arith, length-append, pow_pos, pow_mono, pow-add}
 use lib.Bits.{bit_xor, xor_assoc, xor_self, xor_zero_r, xor_lt, xor_mod, xor_shifted, xor_block}
 use Rattle.std.proofs.ByRecursion.{All-append}
 use Rattle.check_bytes.specs.Polynomials.{Degree, product}

@@ -1,6 +1,6 @@
 -- One byte more of a message.
-use Rattle.std.proofs.Common.{◌≡◌, ℕ, zero, suc, ◌+◌, ◌*◌, ◌/◌, ◌%◌, ◌^◌, ◌<◌, ◌≤◌, List, [], ◌∷◌, ◌++◌, length, get_or, take, sym, refl, ap, ◌∙◌, subst, lt_of_lt_of_le, add-zero, mod-lt, mod-eq_of_lt, mul_assoc, mul_comm, add_comm, zero-mul, mul-one, mul-add, arith, length-append, pow_pos, pow_mono, pow-add}
-use lib.Bits.{bit_xor, xor_assoc, xor_comm, xor_lt, xor_shifted, xor_zero_r}
+use Rattle.std.proofs.Common.{◌≡◌, ℕ, ◌+◌, ◌*◌, ◌/◌, ◌%◌, ◌^◌, ◌<◌, ◌≤◌, List, [], ◌∷◌, ◌++◌, length, get_or, take, sym, ap, ◌∙◌, subst, lt_of_lt_of_le, add-zero, mod-lt, mod-eq_of_lt, mul_assoc, mul_comm, add_comm, zero-mul, mul-one, mul-add, arith, length-append, pow_pos, pow_mono, pow-add}
+use lib.Bits.{bit_xor, xor_assoc, xor_lt, xor_shifted, xor_zero_r}
 use lib.Pow.{ones_lt}
 use Rattle.std.proofs.lemmas.List.Sums.{fold_push}
 use Rattle.std.proofs.lemmas.Nat.{shl_below, shr_split}

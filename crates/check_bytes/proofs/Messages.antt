@@ -1,5 +1,5 @@
 -- Byte strings as polynomials.
-use Rattle.std.proofs.Common.{◌≡◌, ℕ, zero, suc, ◌+◌, ◌*◌, ◌/◌, ◌%◌, ◌^◌, ◌<◌, List, [], ◌∷◌, ◌++◌, length, fold, sym, refl, ap, ◌∙◌, subst, not-suc-le-zero, add-zero, mod-lt, mul_assoc, add-mul, zero-add, mul-suc, arith, lit<, pow_pos, pow-add}
+use Rattle.std.proofs.Common.{◌≡◌, ℕ, zero, suc, ◌+◌, ◌*◌, ◌/◌, ◌%◌, ◌^◌, ◌<◌, List, [], ◌∷◌, ◌++◌, length, fold, sym, refl, ap, ◌∙◌, not-suc-le-zero, add-zero, mod-lt, mul_assoc, add-mul, zero-add, mul-suc, arith, lit<, pow_pos, pow-add}
 use lib.Bits.{bit_xor, xor_self, xor_block}
 use Rattle.std.proofs.lemmas.Nat.{mod-pow-add, mul-add-lt}
 use Rattle.check_bytes.specs.Checks.{message, check_bytes}

@@ -1,6 +1,6 @@
 -- Polynomials over GF(2), each as a number: bit i is the coefficient of x^i. The sum and the difference of two
 -- are `bit_xor`, and x^k times p is p * 2 ^ k.
-use Rattle.std.specs.Prelude.{◌≡◌, ℕ, zero, suc, ◌+◌, ◌*◌, ◌^◌, ◌<◌, ◌≤◌, Bool, true, false, cond, List, [], ◌∷◌, bit_xor, nat_le}
+use Rattle.std.specs.Prelude.{◌≡◌, ℕ, zero, suc, ◌+◌, ◌*◌, ◌^◌, ◌<◌, ◌≤◌, Bool, cond, List, [], ◌∷◌, bit_xor, nat_le}
 
 -- g has degree n
 abbrev pub Degree : ℕ → ℕ → Type 0

@@ -9,7 +9,6 @@ use Rattle.registers.specs.declared.refusal.Refusal.TheVariants.{NotWanted, Full
 use Rattle.registers.specs.declared.running.Running.{Running}
 use Rattle.registers.specs.declared.running.Running.TheVariants as running
 use Rattle.registers.specs.declared.running.Transfer.{Transfer}
-use Rattle.registers.specs.declared.running.Format.{Format}
 use Rattle.registers.specs.Buffers.{added}
 use Rattle.registers.specs.Requests.{is_busy, wanted, hands_bytes}
 use Rattle.transfers.specs.Tests.{is_present}

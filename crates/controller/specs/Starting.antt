@@ -1,5 +1,5 @@
 -- What a command byte does.
-use Rattle.std.specs.Prelude.{ℕ, ◌+◌, ◌*◌, Bool, true, false, cond, not, ◌&&◌, ◌||◌, List, [], ◌∷◌, length, is_some, Some, None, Ok, Err, Option, Result, ◌==◌, nat_lt, slice_index}
+use Rattle.std.specs.Prelude.{ℕ, ◌+◌, ◌*◌, Bool, true, false, cond, ◌&&◌, List, [], ◌∷◌, length, is_some, Some, None, Ok, Err, Option, Result, ◌==◌, nat_lt, slice_index}
 use Rattle.drives.specs.declared.parts.Line.TheVariants.{Ready, Fault}
 use Rattle.drives.specs.Drives.{Drive, drive}
 use Rattle.registers.specs.declared.command.Auxiliary.{Auxiliary}

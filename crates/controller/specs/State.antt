@@ -1,5 +1,5 @@
 -- What a controller is, to its contracts: what its string of drives means, the bytes in its buffer, and its registers.
-use Rattle.std.specs.Prelude.{ℕ, Bool, false, List, [], None}
+use Rattle.std.specs.Prelude.{ℕ, false, List, [], None}
 use Rattle.drives.specs.Drives.{Drive}
 use Rattle.registers.specs.declared.running.Running.{Running}
 use Rattle.registers.specs.declared.running.Running.TheVariants.{Nothing}

@@ -1,5 +1,5 @@
 -- What a turn does.
-use Rattle.std.specs.Prelude.{ℕ, ◌+◌, Bool, cond, not, ◌==◌, nat_le, nat_lt}
+use Rattle.std.specs.Prelude.{ℕ, ◌+◌, cond, not, ◌==◌, nat_le, nat_lt}
 use Rattle.drives.specs.declared.numbers.PhysicalCylinder.{PhysicalCylinder}
 use Rattle.drives.specs.declared.parts.Direction.{Direction}
 use Rattle.drives.specs.declared.parts.Direction.TheVariants.{Inward, Outward}

@@ -1,5 +1,5 @@
 -- What a bay means: nothing where it is empty, else the string in it, held where it has a collar.
-use Rattle.std.specs.Prelude.{ℕ, List, []}
+use Rattle.std.specs.Prelude.{List, []}
 use Rattle.std.proofs.Common.{lit≤}
 use Rattle.drives.specs.declared.bay.Bay.{Bay}
 use Rattle.drives.specs.declared.bay.Bay.TheVariants.{Empty, Free, Held}

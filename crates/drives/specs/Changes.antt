@@ -1,5 +1,5 @@
 -- What changes of a drive, and what stays.
-use Rattle.std.specs.Prelude.{ℕ, ◌+◌, ◌-◌, Bool, true, false, cond, not, ◌&&◌, List, set, ◌==◌, nat_lt, slice_index_or, slice_set}
+use Rattle.std.specs.Prelude.{ℕ, ◌+◌, ◌-◌, Bool, true, false, cond, not, ◌&&◌, List, ◌==◌, nat_lt, slice_index_or, slice_set}
 use Rattle.drives.specs.declared.parts.Part.{Part}
 use Rattle.drives.specs.declared.parts.Part.TheVariants.{Id, Data}
 use Rattle.drives.specs.declared.parts.Line.{Line}

@@ -1,6 +1,6 @@
 -- Strings made of sound strings are sound: what the implementations hand out as their member `sound`.
-use Rattle.std.specs.Prelude.{◌≡◌, ℕ, zero, suc, ◌≤◌, List, [], ◌∷◌, ◌++◌, map, length, take, slice_index_or, refl}
-use Rattle.std.proofs.Common.{arith, subst, sym, lit≤, length-take}
+use Rattle.std.specs.Prelude.{ℕ, zero, suc, ◌≤◌, List, [], ◌∷◌, ◌++◌, map, length, take, slice_index_or, refl}
+use Rattle.std.proofs.Common.{arith, lit≤, length-take}
 use Rattle.std.proofs.lemmas.List.{length-map}
 use Rattle.drives.specs.Drives.{Drive, drive, absent}
 use Rattle.drives.specs.Sound.{SoundDrive, Sound}

@@ -3,7 +3,6 @@ use Rattle.std.specs.Prelude.{◌≡◌, ℕ, ◌/◌, ◌%◌, List, [], ◌∷
 use Rattle.std.specs.declared.alloc.Global.{Global}
 use Rattle.drives.specs.Drives.{Shape}
 use Rattle.units.specs.Rows.{area}
-use Rattle.images.specs.declared.refusal.TrailerField.{TrailerField}
 use Rattle.images.specs.declared.blank.BlankFault.{BlankFault}
 use Rattle.images.specs.declared.blank.BlankFault.TheVariants.{OutOfBounds, NoMemory}
 use Rattle.images.specs.Trailer.{in_bounds}

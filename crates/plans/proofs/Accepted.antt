@@ -1,6 +1,5 @@
 -- Bytes that say a plan are that plan's bytes, with padding.
 use Rattle.std.proofs.Common.{◌≡◌, ℕ, zero, suc, ◌+◌, ◌*◌, ◌/◌, ◌%◌, ◌<◌, ◌≤◌, Bool, true, false, cond, ◌&&◌, eqb, ltb, List, [], ◌∷◌, ◌++◌, length, get_or, drop, replicate, Some, None, Ok, Err, Option, Result, sym, refl, ap, ◌∙◌, subst, arith}
-use Rattle.std.specs.List.{AllByRecursion}
 use Rattle.std.proofs.ByRecursion.{All-get_or}
 use Rattle.std.proofs.lemmas.List.{drop-drop, drop_at}
 use Rattle.std.proofs.lemmas.Bool.{and_parts, eqb-true, ltb-false}
@@ -10,7 +9,7 @@ use Rattle.plans.specs.declared.stage.Movement.{Movement}
 use Rattle.plans.specs.declared.stage.Stage.{Stage}
 use Rattle.plans.specs.Stages.{movement_code, movement_of}
 use Rattle.plans.specs.Rules.{PlanData, Legal, fault_in, answer, judged}
-use Rattle.plans.specs.Bytes.{stages_bytes, encoded, in_front, with_stage, stages_in, stray, end_of, when_padded, with_stages, decoded}
+use Rattle.plans.specs.Bytes.{stages_bytes, encoded, with_stage, stages_in, stray, end_of, when_padded, with_stages}
 use Rattle.plans.specs.Theorems.{AcceptedIsAPlan}
 use Rattle.plans.proofs.Back.{length_stages_bytes}
 use Rattle.plans.proofs.Heads.{plan_with}

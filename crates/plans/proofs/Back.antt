@@ -1,13 +1,13 @@
 -- The bytes of a legal plan say that plan.
-use Rattle.std.proofs.Common.{◌≡◌, ℕ, zero, suc, ◌+◌, ◌*◌, ◌/◌, ◌%◌, ◌≤◌, List, [], ◌∷◌, ◌++◌, length, get_or, drop, replicate, Some, None, Ok, Err, Result, sym, refl, ap, ◌∙◌, arith}
+use Rattle.std.proofs.Common.{◌≡◌, ℕ, zero, suc, ◌+◌, ◌*◌, List, [], ◌∷◌, ◌++◌, length, drop, replicate, Some, None, Ok, Result, sym, refl, ap, ◌∙◌, arith}
 use native.Mathlib.Nat.{mod-add-div'}
-use Rattle.std.proofs.lemmas.List.{drop-drop, drop_at, append-nil}
+use Rattle.std.proofs.lemmas.List.{drop-drop, drop_at}
 use Rattle.plans.specs.declared.fault.PlanFault.{PlanFault}
 use Rattle.plans.specs.declared.stage.Movement.{Movement}
 use Rattle.plans.specs.declared.stage.Movement.TheVariants.{MainRoad, SideRoad, TurningTraffic, Pedestrians}
 use Rattle.plans.specs.declared.stage.Stage.{Stage}
 use Rattle.plans.specs.Stages.{movement_code, movement_of}
-use Rattle.plans.specs.Rules.{PlanData, Legal, fault_in, answer, judged}
+use Rattle.plans.specs.Rules.{PlanData, answer, judged}
 use Rattle.plans.specs.Bytes.{stages_bytes, encoded, with_stage, stages_in, stray, end_of, when_padded, with_stages, decoded}
 use Rattle.plans.specs.Theorems.{EncodingIsReadBack, BytesTellPlansApart}
 use Rattle.plans.proofs.Heads.{plan_with, decoded_head}

@@ -1,10 +1,9 @@
 -- The tests find no fault exactly where a plan is legal.
-use Rattle.std.proofs.Common.{◌≡◌, ℕ, ◌+◌, ◌<◌, ◌≤◌, Bool, true, false, not, eqb, ltb, leb, List, [], ◌∷◌, length, is_some, Some, None, Option, sym, refl, ap, ◌∙◌, subst, arith}
+use Rattle.std.proofs.Common.{◌≡◌, ℕ, ◌+◌, ◌≤◌, Bool, true, false, not, eqb, ltb, leb, List, [], ◌∷◌, length, is_some, Some, None, Option, refl, ap, ◌∙◌, arith}
 use Rattle.std.specs.List.{AllByRecursion}
 use Rattle.std.proofs.lemmas.Bool.{and_parts, and_from, leb-true, le-leb, ltb-true, lt-ltb, eqb-true, eq-eqb}
 use Rattle.plans.specs.declared.fault.PlanFault.{PlanFault}
 use Rattle.plans.specs.declared.fault.PlanFault.TheVariants.{NoJunction, NoNumber, CycleOutOfRange, OffsetOutOfRange, StageCount, CycleNotFilled}
-use Rattle.plans.specs.declared.plan.Plan.{Plan}
 use Rattle.plans.specs.declared.stage.Stage.{Stage}
 use Rattle.plans.specs.Rules.{PlanData, Legal, LegalStage, within, unless, or_else, times_fault, stage_fault, total, fault_in}
 use Rattle.plans.specs.Theorems.{TestsAreTheRules, EachPlanIsLegal}

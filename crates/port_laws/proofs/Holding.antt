@@ -1,17 +1,16 @@
 -- No call alters a byte or a mark of a held unit.
 use Rattle.std.proofs.Common.{◌≡◌, ℕ, zero, suc, ◌+◌, ◌-◌, Bool, true, false, cond, not, ◌&&◌, ◌||◌, eqb, ltb, leb, ◌⊎◌, List, [], ◌∷◌, length, get_or, is_some, Some, None, Ok, Err, Option, sym, refl, ap, ◌∙◌, subst, inl, inr, ⊎_elim}
-use Rattle.std.proofs.lemmas.Bool.{cases_eq, cases_Bool, true≢false, cond_both, and_parts, not-false}
+use Rattle.std.proofs.lemmas.Bool.{cases_eq, cases_Bool, true≢false, cond_both, not-false}
 use Rattle.drives.specs.declared.numbers.PhysicalCylinder.{PhysicalCylinder}
 use Rattle.drives.specs.declared.numbers.Slot.{Slot}
 use Rattle.drives.specs.declared.parts.Direction.{Direction}
 use Rattle.drives.specs.declared.parts.Direction.TheVariants.{Outward}
 use Rattle.drives.specs.declared.parts.Line.{Line}
 use Rattle.drives.specs.declared.parts.Line.TheVariants.{Ready, Protect, Fault}
-use Rattle.drives.specs.declared.parts.Part.{Part}
 use Rattle.drives.specs.declared.parts.Part.TheVariants.{Data}
-use Rattle.drives.specs.Drives.{Drive, drive, absent, mark_here}
+use Rattle.drives.specs.Drives.{Drive, drive, mark_here}
 use Rattle.drives.specs.Changes.{changed, pulsed, with_cylinder, with_line}
-use Rattle.drives.specs.Sound.{Sound, SoundDrive}
+use Rattle.drives.specs.Sound.{SoundDrive}
 use Rattle.registers.specs.declared.command.Command.{Command}
 use Rattle.registers.specs.declared.command.Command.TheVariants as command
 use Rattle.registers.specs.declared.end.End.{End}
@@ -41,18 +40,18 @@ use Rattle.transfers.specs.declared.outcome.Outcome.{Outcome}
 use Rattle.transfers.specs.declared.outcome.Outcome.TheVariants.{Going, Ended}
 use Rattle.transfers.specs.Steps.{Step, step}
 use Rattle.transfers.specs.Tests.{is_present, is_ready, line_test, or_else}
-use Rattle.transfers.specs.Transfers.{with_stage, with_numbers, onward, first_test, stage_test, turn_test, stopped, search, not_found, found, opened, on_search, byte_done, byte_put, byte_taken, byte_turn, counted_on, check_stands, closed, check_turn, waiting_turn, stage_turn, unless_ended, transfer_turn}
-use Rattle.transfers.specs.Formats.{first_format_test, format_stage_test, format_test, slots_left, slot_taken, format_stage_turn, unless_format_ended, format_turn}
+use Rattle.transfers.specs.Transfers.{with_stage, with_numbers, onward, first_test, stage_test, turn_test, stopped, search, not_found, found, on_search, byte_put, byte_taken, byte_turn, counted_on, check_stands, closed, check_turn, stage_turn, unless_ended, transfer_turn}
+use Rattle.transfers.specs.Formats.{first_format_test, format_stage_test, format_test, slot_taken, format_stage_turn, unless_format_ended, format_turn}
 use Rattle.controller.specs.State.{State, fresh, with_drives, with_buffer, with_running}
 use Rattle.controller.specs.Ending.{seek_ended}
 use Rattle.controller.specs.Starting.{parameters, setting_made, buffer_cleared, auxiliary_done, commanded, format_legal, format_begun, transfer_begun, Answer as CommandAnswer}
-use Rattle.controller.specs.Turns.{pulse_followed, towards, seek_turn, recalibrate_turn, transfer_follows, format_follows, turn_of, with_step}
-use Rattle.controller.specs.Calls.{less_wanted, first_parameter, byte_kept, byte_given, write_step, is_readable, handed, read_step, transfer_cut, cut_by, line_step}
+use Rattle.controller.specs.Turns.{pulse_followed, towards, seek_turn, recalibrate_turn, transfer_follows, format_follows, turn_of}
+use Rattle.controller.specs.Calls.{less_wanted, first_parameter, byte_kept, byte_given, write_step, is_readable, handed, transfer_cut, cut_by, line_step}
 use Rattle.runs.specs.declared.call.Call.{Call}
 use Rattle.runs.specs.declared.call.Call.TheVariants.{WriteData, ReadData, WriteCommand, Turn, TerminalCount, SetLine, Reset}
 use Rattle.runs.specs.Calls.{call_step, after}
 use Rattle.port_laws.specs.OfUnits.{SameSectors, HeldUnitsStay}
-use Rattle.port_laws.proofs.Units.{either_way, transfer_only, follows_drives, format_only, format_follows_drives, commanded_untouched, write_untouched, read_untouched, terminal_untouched}
+use Rattle.port_laws.proofs.Units.{either_way, transfer_only, follows_drives, format_only, format_follows_drives, commanded_untouched}
 
 -- a unit that is held and protected, and shows what another showed
 pub record Guarded (d e : Drive) : Type 0 where

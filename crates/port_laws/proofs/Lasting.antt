@@ -1,39 +1,19 @@
 -- Every command ends.
-use Rattle.std.proofs.Common.{◌≡◌, ℕ, zero, suc, ◌+◌, ◌-◌, ◌*◌, ◌/◌, ◌%◌, ◌<◌, ◌≤◌, Bool, true, false, cond, not, ◌&&◌, ◌||◌, eqb, ltb, leb, ◌⊎◌, List, [], ◌∷◌, ◌++◌, length, get_or, set, Some, None, Option, sym, refl, ap, ◌∙◌, subst, inl, inr, ⊎_elim, mod-lt, add-mul, arith}
-use Rattle.std.proofs.lemmas.Bool.{cases_Bool, true≢false, false≢true, cond_both, and_parts, ltb-true, ltb-false, leb-true, leb-false, eqb-true, eqb-false, cases_lt}
-use Rattle.drives.specs.declared.numbers.PhysicalCylinder.{PhysicalCylinder}
-use Rattle.drives.specs.declared.numbers.Slot.{Slot}
-use Rattle.drives.specs.declared.parts.Direction.{Direction}
-use Rattle.drives.specs.declared.parts.Direction.TheVariants.{Inward, Outward}
-use Rattle.drives.specs.declared.parts.Part.TheVariants.{Data}
-use Rattle.drives.specs.Drives.{Drive, drive, mark_here}
+use Rattle.std.proofs.Common.{◌≡◌, ℕ, ◌+◌, ◌-◌, ◌*◌, ◌<◌, ◌≤◌, cond, not, ◌&&◌, eqb, refl, ap, add-mul, arith}
+use Rattle.std.proofs.lemmas.Bool.{cond_both, eqb-false}
 use Rattle.registers.specs.declared.end.End.{End}
 use Rattle.registers.specs.declared.end.End.TheVariants as end
-use Rattle.registers.specs.declared.kind.Kind.{Kind}
-use Rattle.registers.specs.declared.kind.Kind.TheVariants.{Read, Check, Write}
 use Rattle.registers.specs.declared.numbers.Numbers.{Numbers}
 use Rattle.registers.specs.declared.running.Stage.{Stage}
 use Rattle.registers.specs.declared.running.Stage.TheVariants.{Search, Bytes, CheckBytes, Waiting}
-use Rattle.registers.specs.declared.running.FormatStage.{FormatStage}
-use Rattle.registers.specs.declared.running.FormatStage.TheVariants.{Opening, Writing}
-use Rattle.registers.specs.declared.running.Running.{Running}
-use Rattle.registers.specs.declared.running.Running.TheVariants as running
 use Rattle.registers.specs.declared.running.Transfer.{Transfer}
-use Rattle.registers.specs.declared.running.Format.{Format}
 use Rattle.registers.specs.declared.setting.Setting.{Setting}
-use Rattle.registers.specs.declared.units.UnitRecord.{UnitRecord}
-use Rattle.registers.specs.declared.units.UnitRecords.{UnitRecords}
-use Rattle.registers.specs.Addresses.{advanced, is_last, counted}
-use Rattle.registers.specs.Kinds.{hands_out, writes}
-use Rattle.registers.specs.Records.{record_at, moved_record, believed, moved, recalled, all_zero}
-use Rattle.registers.specs.Requests.{is_busy}
+use Rattle.registers.specs.Addresses.{advanced, is_last}
+use Rattle.registers.specs.Kinds.{hands_out}
 use Rattle.transfers.specs.declared.outcome.Outcome.{Outcome}
 use Rattle.transfers.specs.declared.outcome.Outcome.TheVariants.{Going, Ended}
-use Rattle.transfers.specs.Steps.{Step, step}
-use Rattle.transfers.specs.Tests.{is_ready}
-use Rattle.transfers.specs.Transfers.{with_stage, with_numbers, onward, turn_test, stopped, search, not_found, found, on_search, byte_done, byte_put, byte_taken, byte_turn, counted_on, check_stands, closed, stage_turn, unless_ended, transfer_turn}
-use Rattle.transfers.specs.Formats.{format_test, slot_taken, format_stage_turn, unless_format_ended, format_turn}
-use Rattle.port_laws.specs.OfEnds.{sector_turns, stage_left, slots_left, distance, left_of, waits_in, waits}
+use Rattle.transfers.specs.Transfers.{with_stage, with_numbers, onward, stopped, counted_on}
+use Rattle.port_laws.specs.OfEnds.{sector_turns, stage_left}
 use Rattle.port_laws.proofs.Units.{either_way}
 
 -- ---- what a running transfer keeps

@@ -40,10 +40,8 @@ use Rattle.controller.specs.State.{State, with_drives, with_buffer, with_running
 use Rattle.controller.specs.Starting.{parameters, setting_made, buffer_cleared, auxiliary_done, Answer as CommandAnswer, commanded, format_begun, transfer_begun}
 use Rattle.controller.specs.Turns.{pulse_followed, towards, seek_turn, recalibrate_turn, transfer_follows, format_follows, turn_of}
 use Rattle.controller.specs.Calls.{less_wanted, first_parameter, byte_kept, byte_given, write_step, is_readable, handed, read_step, transfer_cut, cut_by, line_step}
-use Rattle.runs.specs.declared.call.Call.{Call}
 use Rattle.runs.specs.declared.call.Call.TheVariants.{WriteData, ReadData, WriteCommand, Turn, TerminalCount, SetLine, Reset}
-use Rattle.runs.specs.Calls.{call_step}
-use Rattle.port_laws.specs.OfUnits.{unit_in, touched, OtherUnitsStay}
+use Rattle.port_laws.specs.OfUnits.{unit_in, OtherUnitsStay}
 
 -- at most unit u differs
 abbrev pub Only : ℕ → List Drive → List Drive → Type 0

@@ -1,5 +1,5 @@
 -- Every command ends.
-use Rattle.std.specs.Prelude.{◌≡◌, ℕ, ◌+◌, ◌-◌, ◌*◌, ◌<◌, ◌≤◌, Bool, true, false, cond, not, ◌&&◌, List, [], ◌∷◌, ◌++◌, length, ◌==◌}
+use Rattle.std.specs.Prelude.{◌≡◌, ℕ, ◌+◌, ◌-◌, ◌*◌, ◌<◌, Bool, true, false, cond, not, ◌&&◌, List, [], ◌∷◌, ◌++◌, length, ◌==◌}
 use Rattle.drives.specs.Drives.{Drive}
 use Rattle.registers.specs.declared.running.Running.{Running}
 use Rattle.registers.specs.declared.running.Running.TheVariants.{Nothing, Seek, Recalibrate, Transfer, Format}

@@ -1,7 +1,5 @@
 -- From one sector of a transfer to the next.
 use Rattle.std.specs.Prelude.{ℕ, ◌+◌, ◌-◌, ◌%◌, Bool, cond, not, ◌&&◌, ◌==◌}
-use Rattle.drives.specs.declared.numbers.PhysicalHead.{PhysicalHead}
-use Rattle.sectors.specs.declared.address.Address.{Address}
 use Rattle.registers.specs.declared.numbers.Numbers.{Numbers}
 use Rattle.registers.specs.declared.setting.Setting.{Setting}
 

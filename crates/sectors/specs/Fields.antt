@@ -1,5 +1,5 @@
 -- The data field of a place on the standing cylinder: data bytes, and their check after them, high byte first.
-use Rattle.std.specs.Prelude.{ℕ, ◌+◌, ◌*◌, List, map, fold}
+use Rattle.std.specs.Prelude.{ℕ, List, map}
 use Rattle.std.specs.List.{range_with_len}
 use Rattle.check_bytes.specs.Checks.{check_of, message}
 use Rattle.drives.specs.declared.parts.Part.TheVariants.{Data}

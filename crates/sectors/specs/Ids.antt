@@ -1,8 +1,8 @@
 -- The ID field of a place on the standing cylinder: LCNH, LCNL, LHN, LSN and a check of two bytes, high bytes first.
-use Rattle.std.specs.Prelude.{ℕ, ◌+◌, ◌*◌, Bool, ◌&&◌, eqb, List, [], ◌∷◌}
+use Rattle.std.specs.Prelude.{ℕ, ◌+◌, ◌*◌, List, [], ◌∷◌}
 use Rattle.check_bytes.specs.Checks.{check_of}
 use Rattle.drives.specs.declared.parts.Part.TheVariants.{Id}
-use Rattle.drives.specs.Drives.{Drive, mark_here, byte_here}
+use Rattle.drives.specs.Drives.{Drive, byte_here}
 use Rattle.sectors.specs.declared.address.Address.{Address}
 use Rattle.sectors.specs.declared.address.CheckPair.{CheckPair}
 

@@ -1,5 +1,5 @@
 -- Turns of Format.
-use Rattle.std.specs.Prelude.{ℕ, ◌+◌, ◌-◌, Bool, cond, ◌||◌, List, length, take, drop, Some, None, Option, ◌==◌, nat_le, nat_lt}
+use Rattle.std.specs.Prelude.{ℕ, ◌+◌, ◌-◌, cond, ◌||◌, List, length, take, drop, Some, None, Option, ◌==◌, nat_le, nat_lt}
 use Rattle.check_bytes.specs.Checks.{start_value}
 use Rattle.check_bytes.specs.Rules.{generator_of}
 use Rattle.drives.specs.declared.numbers.Slot.{Slot}

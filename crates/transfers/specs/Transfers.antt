@@ -1,5 +1,5 @@
 -- Turns of Read Data, Check and Write Data.
-use Rattle.std.specs.Prelude.{ℕ, ◌+◌, Bool, true, false, cond, not, ◌&&◌, List, [], ◌∷◌, length, Some, None, Option, ◌==◌, nat_lt}
+use Rattle.std.specs.Prelude.{ℕ, ◌+◌, Bool, false, cond, not, ◌&&◌, List, [], ◌∷◌, length, Some, None, Option, ◌==◌, nat_lt}
 use Rattle.check_bytes.specs.Checks.{start_value}
 use Rattle.check_bytes.specs.Rules.{generator_of}
 use Rattle.drives.specs.declared.numbers.Slot.{Slot}

@@ -1,8 +1,8 @@
 -- Places of a unit over a row of bytes.
-use Rattle.std.proofs.Common.{◌≡◌, ℕ, zero, suc, ◌+◌, ◌-◌, ◌*◌, ◌/◌, ◌%◌, ◌^◌, ◌<◌, ◌≤◌, min, Bool, true, false, cond, not, ◌&&◌, eqb, ltb, leb, List, [], ◌∷◌, length, get_or, set, sym, refl, ap, ◌∙◌, subst, ap₂, arith, length-set}
+use Rattle.std.proofs.Common.{◌≡◌, ℕ, zero, suc, ◌+◌, ◌-◌, ◌*◌, ◌/◌, ◌^◌, ◌<◌, ◌≤◌, min, Bool, true, false, cond, not, ◌&&◌, List, [], ◌∷◌, length, get_or, set, sym, refl, ap, ◌∙◌, subst, ap₂, arith, length-set}
 use mathlib.Core.Path.{fun_ext}
 use Rattle.std.proofs.lemmas.Bool.Decides.{nat_tests}
-use Rattle.std.proofs.lemmas.Bool.{cond-true, cond-false, and_left, cases_Bool}
+use Rattle.std.proofs.lemmas.Bool.{cond-true, cond-false, and_left}
 use Rattle.drives.specs.declared.parts.Part.{Part}
 use Rattle.drives.specs.declared.parts.Line.{Line}
 use Rattle.drives.specs.declared.parts.Line.TheVariants.{Ready, Protect, Fault}
@@ -14,7 +14,7 @@ use Rattle.drives.specs.Changes.{changed, next_cylinder, with_cylinder, pulsed, 
 use Rattle.drives.specs.Sound.{memory}
 use Rattle.units.specs.declared.layout.Layout.{Layout}
 use Rattle.units.specs.declared.unit.State.{State}
-use Rattle.units.specs.Rows.{slot_size, slot_at, area, part_start, mark_bit, with_bit, marks_in, bytes_in, besides}
+use Rattle.units.specs.Rows.{slot_at, area, part_start, mark_bit, with_bit, marks_in, bytes_in, besides}
 use Rattle.units.specs.Units.{fits, said, shape_in, standing, lines_of, unit_of, alone, rest_of}
 use Rattle.units.specs.Found.{Missing, Standing}
 use Rattle.units.proofs.Slots.{slot_inside, bit_shows, bits_kept, part_inside, part_after}

@@ -1,13 +1,11 @@
 -- What a write to one byte of a slot alters.
-use Rattle.std.proofs.Common.{◌≡◌, ℕ, ◌+◌, ◌-◌, ◌*◌, ◌/◌, ◌%◌, ◌<◌, ◌≤◌, Bool, true, false, cond, ◌&&◌, eqb, ltb, leb, List, [], ◌∷◌, length, get_or, set, sym, refl, ap, ◌∙◌, ap₂, arith}
-use mathlib.Core.Path.{fun_ext}
+use Rattle.std.proofs.Common.{◌≡◌, ℕ, ◌+◌, ◌-◌, ◌/◌, ◌%◌, ◌<◌, ◌≤◌, true, cond, ◌&&◌, eqb, List, length, get_or, set, ap, ◌∙◌, arith}
 use Rattle.std.proofs.lemmas.Bool.Decides.{nat_tests}
 use Rattle.drives.specs.declared.parts.Part.{Part}
-use Rattle.drives.specs.declared.parts.Part.TheVariants.{Id, Data}
 use Rattle.drives.specs.Drives.{Shape, is_place, is_byte, part_size}
 use Rattle.drives.specs.Changes.{same_part, same_place}
-use Rattle.units.specs.Rows.{slot_size, slot_at, area, part_start, mark_bit, with_bit, marks_in, bytes_in, besides}
-use Rattle.units.proofs.Slots.{same_slot, slot_inside, slot_offset, get_d_set, bit_shows, bits_kept, part_inside, part_after, part_apart, same_part_is}
+use Rattle.units.specs.Rows.{slot_size, slot_at, area, part_start, mark_bit, marks_in, bytes_in, besides}
+use Rattle.units.proofs.Slots.{same_slot, slot_inside, slot_offset, get_d_set, part_inside, part_after, part_apart, same_part_is}
 
 module _ (g : Shape) (first : ℕ) (row : List ℕ) (c h s v : ℕ) (there : is_place g c h s ≡ true) where
   -- the byte of marks written

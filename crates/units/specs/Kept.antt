@@ -1,15 +1,14 @@
 -- A unit over a row of bytes is sound: what implementations hand out as their member `sound`.
-use Rattle.std.specs.Prelude.{◌≡◌, ℕ, zero, suc, ◌-◌, ◌≤◌, Bool, true, false, cond, ◌&&◌, List, [], ◌∷◌, length, refl}
+use Rattle.std.specs.Prelude.{◌≡◌, ℕ, zero, suc, Bool, true, false, cond, ◌&&◌, List, refl}
 use Rattle.std.proofs.Common.{arith, lit≤}
 use Rattle.std.proofs.lemmas.Bool.{cond-false}
 use Rattle.drives.specs.Bounds.{bounded}
-use Rattle.drives.specs.Drives.{Drive, Shape, drive, absent, no_shape}
+use Rattle.drives.specs.Drives.{Shape, drive, no_shape}
 use Rattle.drives.specs.Sound.{SoundDrive, Sound}
 use Rattle.drives.specs.Kept.{absent_sound}
-use Rattle.units.specs.declared.layout.Layout.{Layout}
 use Rattle.units.specs.declared.unit.State.{State}
 use Rattle.units.specs.Rows.{marks_in, bytes_in}
-use Rattle.units.specs.Units.{said, fits, shape_in, standing, unit_of, alone}
+use Rattle.units.specs.Units.{said, unit_of, alone}
 
 -- a layout that fits is in bounds
 shape_bounds : (a b : Bool) (g : Shape) → bounded g.cylinders g.heads g.slots g.length ≡ a → bounded (cond (a && b) g no_shape).cylinders (cond (a && b) g no_shape).heads (cond (a && b) g no_shape).slots (cond (a && b) g no_shape).length ≡ true

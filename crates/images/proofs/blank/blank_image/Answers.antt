@@ -1,9 +1,8 @@
-use Rattle.std.proofs.Common.{◌≡◌, ℕ, List, ◌++◌, replicate, Ok, sym, refl, ap, ◌∙◌, ap₂, arith}
+use Rattle.std.proofs.Common.{◌≡◌, ℕ, ◌++◌, replicate, Ok, sym, ap, ◌∙◌, ap₂, arith}
 use Rattle.std.proofs.lemmas.Bool.Decides.{nat_tests}
 use Rattle.drives.specs.Drives.{Shape, shape_of}
-use Rattle.units.specs.Rows.{area}
 use Rattle.images.specs.Trailer.{in_bounds}
-use Rattle.images.specs.Blank.{trailer, blank}
+use Rattle.images.specs.Blank.{blank}
 use Rattle.images.proofs.blank.blank_image.Goals as goal
 
 -- a shape that is in bounds is the one that was asked for

@@ -1,4 +1,4 @@
-use Rattle.std.proofs.Common.{◌≡◌, ◌≤◌, refl, ap, ◌∙◌, arith}
+use Rattle.std.proofs.Common.{◌≡◌, refl, ap, ◌∙◌, arith}
 use Rattle.check_bytes.specs.Checks.{message}
 use Rattle.drives.specs.Drives.{drive}
 use Rattle.sectors.specs.Fields.{field_bytes}

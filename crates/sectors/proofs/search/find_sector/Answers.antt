@@ -1,4 +1,4 @@
-use Rattle.std.proofs.Common.{◌≡◌, ℕ, Bool, true, false, sym, ap, ◌∙◌, arith}
+use Rattle.std.proofs.Common.{ℕ, Bool, sym, ap, ◌∙◌}
 use Rattle.check_bytes.specs.Checks.{start_value}
 use Rattle.drives.specs.Drives.{Shape, drive}
 use Rattle.sectors.specs.Search.{wanted_at, first_slot}

@@ -1,4 +1,4 @@
-use Rattle.std.proofs.Common.{◌≡◌, ℕ, Bool, sym, ap, ◌∙◌, arith}
+use Rattle.std.proofs.Common.{◌≡◌, ℕ, Bool, ap, ◌∙◌, arith}
 use Rattle.drives.specs.declared.parts.Part.TheVariants.{Id}
 use Rattle.drives.specs.Drives.{Shape, drive, mark_here}
 use Rattle.tracks.specs.Marks.{some_slot, has_id_mark}

@@ -1,4 +1,4 @@
-use Rattle.std.proofs.Common.{◌≡◌, ℕ, Bool, sym, ap, ◌∙◌, arith}
+use Rattle.std.proofs.Common.{◌≡◌, ℕ, Bool, ap, ◌∙◌, arith}
 use Rattle.check_bytes.specs.Checks.{start_value}
 use Rattle.drives.specs.Drives.{Shape, drive}
 use Rattle.tracks.specs.Marks.{some_slot, is_wrong_id, has_wrong_id}

@@ -1,4 +1,4 @@
-use Rattle.std.proofs.Common.{◌≡◌, ℕ, ◌+◌, ◌*◌, ◌/◌, get_or, sym, refl, ap, ◌∙◌, arith}
+use Rattle.std.proofs.Common.{◌≡◌, ℕ, ◌+◌, ◌*◌, ◌/◌, get_or, refl, ap, ◌∙◌, arith}
 use Rattle.check_bytes.specs.Checks.{check_bytes, start_value}
 use Rattle.drives.specs.declared.parts.Part.TheVariants.{Data}
 use Rattle.sectors.specs.declared.address.CheckPair.{CheckPair}

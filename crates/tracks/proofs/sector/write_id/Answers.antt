@@ -1,4 +1,4 @@
-use Rattle.std.proofs.Common.{◌≡◌, ℕ, ◌+◌, List, get_or, sym, refl, ap, ◌∙◌, arith}
+use Rattle.std.proofs.Common.{◌≡◌, ℕ, ◌+◌, List, get_or, refl, ap, ◌∙◌, arith}
 use Rattle.drives.specs.declared.parts.Part.TheVariants.{Id}
 use Rattle.drives.specs.Changes.{changed}
 use Rattle.tracks.specs.Writes.{with_bytes, with_id}

@@ -1,4 +1,4 @@
-use Rattle.std.proofs.Common.{◌≡◌, ◌+◌, sym, refl, ap, ◌∙◌, arith}
+use Rattle.std.proofs.Common.{◌≡◌, ◌+◌, refl, ap, ◌∙◌, arith}
 use Rattle.drives.specs.declared.parts.Part.TheVariants.{Data}
 use Rattle.drives.specs.Changes.{changed}
 use Rattle.tracks.specs.Writes.{with_bytes, with_pattern}

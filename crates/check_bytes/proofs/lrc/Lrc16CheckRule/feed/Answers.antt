@@ -1,4 +1,4 @@
-use Rattle.std.proofs.Common.{◌≡◌, ℕ, ◌*◌, ◌/◌, ◌%◌, ◌<◌, sym, ap, ◌∙◌, subst, arith, lit<, lit≤, rules}
+use Rattle.std.proofs.Common.{ℕ, ◌/◌, ◌%◌, ◌<◌, ap, ◌∙◌, arith, lit<, lit≤, rules}
 use lib.Bits.{bit_xor, xor_lt}
 use Rattle.check_bytes.specs.Rules.{lrc16}
 use Rattle.check_bytes.proofs.Feeding.{fed_by_parts}

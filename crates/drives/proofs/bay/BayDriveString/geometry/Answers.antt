@@ -1,6 +1,5 @@
 use Rattle.std.proofs.Common.{sym, ap, ◌∙◌}
-use Rattle.drives.specs.Drives.{Drive, drive}
-use Rattle.drives.specs.declared.bay.Bay.{Bay}
+use Rattle.drives.specs.Drives.{drive}
 use Rattle.drives.specs.Bays.{bay_meaning}
 use Rattle.drives.proofs.bay.BayDriveString.geometry.Goals as goal
 

@@ -1,6 +1,5 @@
 use Rattle.std.proofs.Common.{sym, ap}
-use Rattle.drives.specs.Drives.{Drive, drive, mark_here}
-use Rattle.drives.specs.declared.bay.Bay.{Bay}
+use Rattle.drives.specs.Drives.{drive, mark_here}
 use Rattle.drives.specs.Bays.{bay_meaning}
 use Rattle.drives.proofs.bay.BayDriveString.mark.Goals as goal
 

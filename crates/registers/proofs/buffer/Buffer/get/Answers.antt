@@ -1,4 +1,4 @@
-use Rattle.std.proofs.Common.{◌≡◌, ◌<◌, ◌≤◌, length, sym, arith, rules}
+use Rattle.std.proofs.Common.{◌≡◌, ◌<◌, length, sym, arith, rules}
 use Rattle.std.proofs.lemmas.List.{get_or-take, get_or_past}
 use Rattle.registers.specs.Buffers.{held}
 use Rattle.registers.proofs.Held.{held_length}

@@ -1,6 +1,5 @@
-use Rattle.std.proofs.Common.{◌≡◌, take, ap, ◌∙◌, arith}
+use Rattle.std.proofs.Common.{take, ap, ◌∙◌}
 use Rattle.std.proofs.lemmas.List.{take_all}
-use Rattle.registers.specs.Buffers.{added}
 use Rattle.registers.proofs.Held.{first_eight_more}
 use Rattle.registers.proofs.buffer.Buffer.of.Goals as goal
 

@@ -1,6 +1,6 @@
-use Rattle.std.proofs.Common.{◌≡◌, ℕ, ◌+◌, ◌*◌, ◌<◌, ◌≤◌, false, List, arith}
+use Rattle.std.proofs.Common.{◌+◌, ◌*◌, arith}
 use Rattle.std.proofs.lemmas.Bool.Decides.{nat_tests}
-use Rattle.drives.specs.Drives.{shape_of, is_place}
+use Rattle.drives.specs.Drives.{shape_of}
 use Rattle.units.specs.Found.{Standing}
 use Rattle.units.proofs.Places.{found, not_found}
 use Rattle.units.proofs.unit.Unit.find.Goals as goal

@@ -1,7 +1,6 @@
-use Rattle.std.proofs.Common.{◌≡◌, ℕ, ◌+◌, ◌<◌, ◌≤◌, length, sym, ap, ◌∙◌, subst, arith}
+use Rattle.std.proofs.Common.{ℕ, ◌+◌, ◌<◌, ◌≤◌, length, sym, ap, ◌∙◌, subst, arith}
 use Rattle.drives.specs.Drives.{Shape, part_size}
 use Rattle.units.specs.Units.{shape_in}
-use Rattle.units.specs.Rows.{part_start}
 use Rattle.units.specs.Found.{ByteAt}
 use Rattle.units.proofs.Slots.{part_inside}
 use Rattle.units.proofs.unit.Unit.find_byte.Goals as goal

@@ -1,8 +1,6 @@
-use Rattle.std.proofs.Common.{◌≡◌, Bool, sym, ap, ◌∙◌}
-use Rattle.drives.specs.declared.parts.Line.{Line}
-use Rattle.drives.specs.declared.parts.Line.TheVariants.{Ready, Protect, Fault}
-use Rattle.drives.specs.Drives.{Drive, drive}
-use Rattle.units.specs.Units.{unit_of, alone, lines_of}
+use Rattle.std.proofs.Common.{sym, ap, ◌∙◌}
+use Rattle.drives.specs.Drives.{Drive}
+use Rattle.units.specs.Units.{unit_of, lines_of}
 use Rattle.units.proofs.Places.{here, elsewhere}
 use Rattle.units.proofs.unit.UnitDriveString.line.Goals as goal
 

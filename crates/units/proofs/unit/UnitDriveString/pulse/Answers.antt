@@ -1,4 +1,4 @@
-use Rattle.std.proofs.Common.{◌≡◌, sym, refl, ap, ◌∙◌, ap₂}
+use Rattle.std.proofs.Common.{refl, ap, ◌∙◌, ap₂}
 use Rattle.drives.specs.Drives.{Shape}
 use Rattle.drives.specs.Changes.{next_cylinder}
 use Rattle.units.specs.Units.{alone}

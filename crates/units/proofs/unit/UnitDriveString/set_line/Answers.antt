@@ -1,4 +1,4 @@
-use Rattle.std.proofs.Common.{◌≡◌, sym, refl, ap, ◌∙◌}
+use Rattle.std.proofs.Common.{sym, refl, ap, ◌∙◌}
 use Rattle.drives.specs.declared.parts.Line.TheVariants.{Ready, Protect, Fault}
 use Rattle.drives.specs.Changes.{changed, with_line}
 use Rattle.units.specs.Units.{alone}
