@@ -5,9 +5,11 @@ usage: tools/respell.py            at the top of the repository, once, right aft
 
 A word with dashes that a file of specs/ or proofs/ declares becomes snake case, and camel case where it begins with
 a capital, that is, where it names a type: check-of becomes check_of, Held-units-stay becomes HeldUnitsStay. It turns
-whole words: in code and clauses everywhere, in comments and pages only between backticks, in strings nowhere. The
-labels that Rattle itself makes in Answers and Invariants are not declared by us, and stay. It stops, and writes
-nothing, where two names would become one, or where a name would meet a word that is no function's.
+whole words: in code and clauses everywhere, in comments and pages only between backticks, in strings nowhere. A label
+that Rattle itself makes in Answers and Invariants stays, but where it is spelled like a word that we declare: then it
+turns too, which is right for a function's own name (set-byte) and wrong for a joined one (with-buffer, in one file of
+registers, which was put back by hand). It stops, and writes nothing, where two names would become one, or where a name
+would meet a word that is no function's.
 """
 
 import collections
