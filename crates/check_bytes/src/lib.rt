@@ -7,5 +7,6 @@ mod halves;
 pub mod kind;
 pub mod lrc;
 pub mod rule;
+pub mod scheme;
 mod table;
 pub mod theorems;

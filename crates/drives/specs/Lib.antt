@@ -1,5 +1,6 @@
 pub mod Bounds
 pub mod Drives
+pub mod Shapes
 pub mod Changes
 pub mod Sound
 pub mod Joined

@@ -12,3 +12,12 @@ pub struct Geometry {
     pub length: u16,
     ghost bounds: { bounded cylinders heads slots length ≡ true },
 }
+
+// The numbers of a geometry, each of which has bounds.
+#[derive(Clone, Copy, PartialEq, Eq)]
+pub enum Dimension {
+    Cylinders,
+    Heads,
+    Slots,
+    Length,
+}

@@ -1,14 +1,16 @@
+ghost use Rattle.std.specs.Prelude.{◌≡◌};
+
 use crate::numbers::{PhysicalHead, Slot};
 
 // The two parts of a slot: each has an address mark and bytes of its own.
-#[derive(Clone, Copy)]
+#[derive(Clone, Copy, PartialEq, Eq)]
 pub enum Part {
     Id,
     Data,
 }
 
 // The lines of a unit.
-#[derive(Clone, Copy)]
+#[derive(Clone, Copy, PartialEq, Eq)]
 pub enum Line {
     Ready,
     Protect,
@@ -16,7 +18,7 @@ pub enum Line {
 }
 
 // Where a step pulse sends the heads: inward is towards higher cylinders.
-#[derive(Clone, Copy)]
+#[derive(Clone, Copy, PartialEq, Eq)]
 pub enum Direction {
     Inward,
     Outward,
@@ -28,4 +30,24 @@ pub struct Place {
     pub unit: u8,
     pub head: PhysicalHead,
     pub slot: Slot,
+}
+
+// A track of the cylinder where its unit's heads stand.
+#[derive(Clone, Copy)]
+pub struct Track {
+    pub unit: u8,
+    pub head: PhysicalHead,
+}
+
+impl Track {
+    // One of its slots.
+    pub fn at(self, slot: Slot) -> Place
+        ensures { result ≡ record { unit = self.unit; head = self.head; slot = slot } }
+    {
+        Place {
+            unit: self.unit,
+            head: self.head,
+            slot,
+        }
+    }
 }

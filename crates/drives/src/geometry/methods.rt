@@ -1,9 +1,34 @@
 ghost use Rattle.std.specs.Prelude.{◌≡◌};
 ghost use Rattle.drives.specs.Drives.{shape_of, no_shape};
+ghost use Rattle.drives.specs.Shapes.{shape_answer, bounded_shape};
 
-use crate::geometry::Geometry;
+use crate::geometry::{Dimension, Geometry};
 
 impl Geometry {
+    // A geometry within the bounds, or the first number that is not.
+    pub fn new(cylinders: u16, heads: u8, slots: u8, length: u16) -> Result<Geometry, Dimension>
+        ensures { shape_answer result ≡ bounded_shape cylinders heads slots length }
+    {
+        if cylinders < 1 || cylinders > 2048 {
+            return Err(Dimension::Cylinders);
+        }
+        if heads < 1 || heads > 8 {
+            return Err(Dimension::Heads);
+        }
+        if slots < 1 || slots > 32 {
+            return Err(Dimension::Slots);
+        }
+        if length < 128 || length > 4095 {
+            return Err(Dimension::Length);
+        }
+        Ok(Geometry {
+            cylinders,
+            heads,
+            slots,
+            length,
+        })
+    }
+
     // The geometry of a unit that has no places.
     pub fn none() -> Geometry
         ensures { shape_of result ≡ no_shape }

@@ -1,0 +1,37 @@
+ghost use Rattle.std.specs.Prelude.{◌≡◌, ◌/◌, IfOk};
+ghost use Rattle.check_bytes.specs.Checks.{check_bytes};
+ghost use Rattle.check_bytes.specs.Schemes.{divider, check_by};
+
+use crate::check::{check_bytes_of, check_of};
+use crate::rule::{CheckRule, Start, start_register};
+use std::alloc::{AllocError, Global};
+
+// All that the check of some bytes depends on besides them: a rule, and what its register starts with.
+#[derive(Clone, Copy)]
+pub struct CheckScheme<R> {
+    pub rule: R,
+    pub start: Start,
+}
+
+impl<R: CheckRule> CheckScheme<R> {
+    // The register before the first byte.
+    pub fn start_register(&self) -> u32
+        ensures { result ≡ (divider R.generator R.degree self.now).start }
+    {
+        start_register(&self.rule, self.start)
+    }
+
+    // The check of the bytes, byte after byte.
+    pub fn check_of(&self, bytes: &[u8]) -> u32
+        ensures { result ≡ check_by (divider R.generator R.degree self.now) bytes.now }
+    {
+        check_of(&self.rule, self.start, bytes)
+    }
+
+    // The check bytes of the bytes, high byte first.
+    pub fn check_bytes_of(&self, heap: Global, bytes: &[u8]) -> Result<Vec<u8>, AllocError>
+        ensures { IfOk result (λ v. v.items ≡ check_bytes (R.degree self.now.rule / 8) (check_by (divider R.generator R.degree self.now) bytes.now)) }
+    {
+        check_bytes_of(heap, &self.rule, self.start, bytes)
+    }
+}
