@@ -1,4 +1,4 @@
--- Strings made of sound strings are sound: what the implementations hand out as their member `sound`.
+-- Strings made of sound strings are sound: what the implementations prove as their law `sound`.
 use Rattle.std.specs.Prelude.{ℕ, zero, suc, ◌≤◌, List, [], ◌∷◌, ◌++◌, map, length, take, slice_index_or, refl}
 use Rattle.std.proofs.Common.{arith, lit≤, length-take}
 use Rattle.std.proofs.lemmas.List.{length-map}

@@ -16,8 +16,6 @@ pub trait DriveString {
     // Memory that the meaning does not name. Nothing alters it.
     ghost rest: { Self → Rest };
 
-    ghost sound: { (string : Self) → Sound (meaning string) };
-
     fn units(&self) -> u8
         ensures { result ≡ length (meaning self.now) };
 
@@ -52,4 +50,7 @@ pub trait DriveString {
     fn set_byte(&mut self, place: Place, part: Part, i: u16, value: u8)
         ensures meaning { meaning self.new ≡ changed (meaning self.old) place.unit (with_byte part place.head.0 place.slot.0 i value) }
         ensures rest { rest self.new ≡ rest self.old };
+
+    // Whatever stands on it is sound.
+    ghost sound: { (string : Self) → Sound (meaning string) };
 }
