@@ -1,5 +1,5 @@
 use crate::bytes::Memory;
-use crate::slices::byte_at;
+use crate::slices::set_byte_at;
 
 // Memory of its own.
 #[derive(Drop)]
@@ -10,17 +10,11 @@ pub struct Owned {
 impl Memory for Owned {
     ghost contents = { λ m. m.bytes.items };
 
-    fn size(&self) -> usize {
-        self.bytes.len()
-    }
-
-    fn get(&self, i: usize) -> u8 {
-        byte_at(&self.bytes, i)
+    fn bytes(&self) -> &[u8] {
+        &self.bytes
     }
 
     fn put(&mut self, i: usize, value: u8) {
-        if i < self.bytes.len() {
-            self.bytes[i] = value;
-        }
+        set_byte_at(&mut self.bytes, i, value);
     }
 }

@@ -13,23 +13,16 @@ pub enum RackMemory<M> {
 impl<M: Memory> Memory for RackMemory<M> {
     ghost contents = { rack_contents M.Memory.contents };
 
-    fn size(&self) -> usize {
+    fn bytes(&self) -> &[u8] {
         match self {
-            RackMemory::Image(bytes) => bytes.size(),
-            RackMemory::Cartridge(cells) => cells.size(),
-        }
-    }
-
-    fn get(&self, i: usize) -> u8 {
-        match self {
-            RackMemory::Image(bytes) => bytes.get(i),
-            RackMemory::Cartridge(cells) => cells.get(i),
+            RackMemory::Image(image) => image.bytes(),
+            RackMemory::Cartridge(cells) => cells.bytes(),
         }
     }
 
     fn put(&mut self, i: usize, value: u8) {
         match self {
-            RackMemory::Image(bytes) => bytes.put(i, value),
+            RackMemory::Image(image) => image.put(i, value),
             RackMemory::Cartridge(cells) => cells.put(i, value),
         }
     }
