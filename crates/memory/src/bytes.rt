@@ -7,6 +7,7 @@ pub trait Memory {
     fn bytes(&self) -> &[u8]
         ensures { result.now ≡ contents self.now };
 
+    // A write and no slice lent to be changed: of an array's it is not proved what comes back.
     fn put(&mut self, i: usize, value: u8)
         ensures { contents self.new ≡ slice_set (contents self.old) i value };
 
