@@ -1,4 +1,3 @@
-ghost use Rattle.std.specs.Prelude.{◌≡◌};
 ghost use Rattle.drives.specs.Joined.{joined, left_over};
 ghost use Rattle.drives.specs.Sound.{both};
 ghost use Rattle.drives.specs.Sides.{SideOf};
@@ -20,20 +19,6 @@ pub struct Pair<A, B> {
 enum Side {
     First(u8),
     Second(u8),
-    Neither,
-}
-
-// The same place on another unit.
-fn place_on(unit: u8, place: Place) -> Place
-    ensures unit { result.unit ≡ unit }
-    ensures head { result.head ≡ place.head }
-    ensures slot { result.slot ≡ place.slot }
-{
-    Place {
-        unit,
-        head: place.head,
-        slot: place.slot,
-    }
 }
 
 fn which_side<A: DriveString, B: DriveString>(pair: &Pair<A, B>, unit: u8) -> Side
@@ -45,10 +30,12 @@ fn which_side<A: DriveString, B: DriveString>(pair: &Pair<A, B>, unit: u8) -> Si
     } else if unit < 8 {
         Side::Second(unit - first)
     } else {
-        Side::Neither
+        // Past the eighth, where no string has a unit.
+        Side::Second(unit)
     }
 }
 
+// Each method has both arms: one closure can't serve two types of string, and none may be handed out as `dyn`.
 impl<A: DriveString, B: DriveString> DriveString for Pair<A, B> {
     ghost meaning = { λ p. joined (A.DriveString.meaning p.first) (B.DriveString.meaning p.second) };
 
@@ -57,15 +44,13 @@ impl<A: DriveString, B: DriveString> DriveString for Pair<A, B> {
     ghost sound = { λ p. joined_sound (A.DriveString.meaning p.first) (B.DriveString.meaning p.second) (A.DriveString.sound p.first) (B.DriveString.sound p.second) };
 
     fn units(&self) -> u8 {
-        let n = self.first.units() + self.second.units();
-        n.min(8)
+        (self.first.units() + self.second.units()).min(8)
     }
 
     fn geometry(&self, unit: u8) -> Geometry {
         match which_side(self, unit) {
             Side::First(u) => self.first.geometry(u),
             Side::Second(u) => self.second.geometry(u),
-            Side::Neither => Geometry::none(),
         }
     }
 
@@ -73,7 +58,6 @@ impl<A: DriveString, B: DriveString> DriveString for Pair<A, B> {
         match which_side(self, unit) {
             Side::First(u) => self.first.cylinder(u),
             Side::Second(u) => self.second.cylinder(u),
-            Side::Neither => PhysicalCylinder(0),
         }
     }
 
@@ -81,23 +65,20 @@ impl<A: DriveString, B: DriveString> DriveString for Pair<A, B> {
         match which_side(self, unit) {
             Side::First(u) => self.first.line(u, line),
             Side::Second(u) => self.second.line(u, line),
-            Side::Neither => false,
         }
     }
 
     fn mark(&self, place: Place, part: Part) -> bool {
         match which_side(self, place.unit) {
-            Side::First(u) => self.first.mark(place_on(u, place), part),
-            Side::Second(u) => self.second.mark(place_on(u, place), part),
-            Side::Neither => false,
+            Side::First(u) => self.first.mark(place.on(u), part),
+            Side::Second(u) => self.second.mark(place.on(u), part),
         }
     }
 
     fn byte(&self, place: Place, part: Part, i: u16) -> u8 {
         match which_side(self, place.unit) {
-            Side::First(u) => self.first.byte(place_on(u, place), part, i),
-            Side::Second(u) => self.second.byte(place_on(u, place), part, i),
-            Side::Neither => 0,
+            Side::First(u) => self.first.byte(place.on(u), part, i),
+            Side::Second(u) => self.second.byte(place.on(u), part, i),
         }
     }
 
@@ -105,7 +86,6 @@ impl<A: DriveString, B: DriveString> DriveString for Pair<A, B> {
         match which_side(self, unit) {
             Side::First(u) => self.first.pulse(u, direction),
             Side::Second(u) => self.second.pulse(u, direction),
-            Side::Neither => (),
         }
     }
 
@@ -113,23 +93,20 @@ impl<A: DriveString, B: DriveString> DriveString for Pair<A, B> {
         match which_side(self, unit) {
             Side::First(u) => self.first.set_line(u, line, value),
             Side::Second(u) => self.second.set_line(u, line, value),
-            Side::Neither => (),
         }
     }
 
     fn set_mark(&mut self, place: Place, part: Part, value: bool) {
         match which_side(self, place.unit) {
-            Side::First(u) => self.first.set_mark(place_on(u, place), part, value),
-            Side::Second(u) => self.second.set_mark(place_on(u, place), part, value),
-            Side::Neither => (),
+            Side::First(u) => self.first.set_mark(place.on(u), part, value),
+            Side::Second(u) => self.second.set_mark(place.on(u), part, value),
         }
     }
 
     fn set_byte(&mut self, place: Place, part: Part, i: u16, value: u8) {
         match which_side(self, place.unit) {
-            Side::First(u) => self.first.set_byte(place_on(u, place), part, i, value),
-            Side::Second(u) => self.second.set_byte(place_on(u, place), part, i, value),
-            Side::Neither => (),
+            Side::First(u) => self.first.set_byte(place.on(u), part, i, value),
+            Side::Second(u) => self.second.set_byte(place.on(u), part, i, value),
         }
     }
 }

@@ -32,6 +32,15 @@ pub struct Place {
     pub slot: Slot,
 }
 
+impl Place {
+    // The same place on another unit.
+    pub fn on(self, unit: u8) -> Place
+        ensures { result ≡ record { unit = unit; head = self.head; slot = self.slot } }
+    {
+        Place { unit, ..self }
+    }
+}
+
 // A track of the cylinder where its unit's heads stand.
 #[derive(Clone, Copy)]
 pub struct Track {
