@@ -28,14 +28,9 @@ pulsed direction d = with_cylinder (next_cylinder direction d.shape.cylinders d.
 
 abbrev pub same_line : Line → Line → Bool
 same_line Ready Ready = true
-same_line Ready Protect = false
-same_line Ready Fault = false
-same_line Protect Ready = false
 same_line Protect Protect = true
-same_line Protect Fault = false
-same_line Fault Ready = false
-same_line Fault Protect = false
 same_line Fault Fault = true
+same_line _ _ = false
 
 -- one line set; the protect line of a held unit stays
 unfoldable pub with_line : Line → Bool → Drive → Drive
@@ -51,9 +46,8 @@ with_line line value d =
 
 abbrev pub same_part : Part → Part → Bool
 same_part Id Id = true
-same_part Id Data = false
-same_part Data Id = false
 same_part Data Data = true
+same_part _ _ = false
 
 abbrev pub same_place : ℕ → ℕ → ℕ → ℕ → ℕ → ℕ → Bool
 same_place c h s c' h' s' = c == c' && (h == h' && s == s')

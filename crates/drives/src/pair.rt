@@ -43,6 +43,7 @@ impl<A: DriveString, B: DriveString> DriveString for Pair<A, B> {
 
     ghost sound = { λ p. joined_sound (A.DriveString.meaning p.first) (B.DriveString.meaning p.second) (A.DriveString.sound p.first) (B.DriveString.sound p.second) };
 
+    #[tactic(auto, using(crate::proofs::Pairs::joined_length))]
     fn units(&self) -> u8 {
         (self.first.units() + self.second.units()).min(8)
     }

@@ -9,16 +9,16 @@ impl Geometry {
     pub fn new(cylinders: u16, heads: u8, slots: u8, length: u16) -> Result<Geometry, Dimension>
         ensures { shape_answer result ≡ bounded_shape cylinders heads slots length }
     {
-        if cylinders < 1 || cylinders > 2048 {
+        if !(1..=2048).contains(&cylinders) {
             return Err(Dimension::Cylinders);
         }
-        if heads < 1 || heads > 8 {
+        if !(1..=8).contains(&heads) {
             return Err(Dimension::Heads);
         }
-        if slots < 1 || slots > 32 {
+        if !(1..=32).contains(&slots) {
             return Err(Dimension::Slots);
         }
-        if length < 128 || length > 4095 {
+        if !(128..=4095).contains(&length) {
             return Err(Dimension::Length);
         }
         Ok(Geometry {
