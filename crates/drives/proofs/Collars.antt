@@ -34,7 +34,7 @@ not_felt f e (d ∷ ds) (suc u) = ap (λ xs. hold d ∷ xs) (not_felt f e ds u)
 
 -- a held unit with other lines
 with_lines : Drive → (Line → Bool) → Drive
-with_lines d ls = record { shape = d.shape; lines = ls; held = true; cylinder = d.cylinder; marks = d.marks; bytes = d.bytes }
+with_lines d ls = record d { lines = ls; held = true }
 
 holds_protect : (value : Bool) (d : Drive) → with_line Protect value (hold d) ≡ hold d
 unfolding hold with_line with_lines

@@ -19,8 +19,7 @@ next_cylinder Outward cylinders n = n - 1
 
 -- the heads on cylinder n
 unfoldable pub with_cylinder : ℕ → Drive → Drive
-with_cylinder n d =
-    record { shape = d.shape; lines = d.lines; held = d.held; cylinder = n; marks = d.marks; bytes = d.bytes }
+with_cylinder n d = record d { cylinder = n }
 
 -- a step pulse moves the heads by one cylinder, if there is one
 abbrev pub pulsed : Direction → Drive → Drive
@@ -35,14 +34,7 @@ same_line _ _ = false
 -- one line set; the protect line of a held unit stays
 unfoldable pub with_line : Line → Bool → Drive → Drive
 with_line line value d =
-    record {
-      shape = d.shape;
-      lines = λ other. cond (same_line line other && not (same_line line Protect && d.held)) value (d.lines other);
-      held = d.held;
-      cylinder = d.cylinder;
-      marks = d.marks;
-      bytes = d.bytes;
-    }
+    record d { lines = λ other. cond (same_line line other && not (same_line line Protect && d.held)) value (d.lines other) }
 
 abbrev pub same_part : Part → Part → Bool
 same_part Id Id = true
@@ -55,26 +47,16 @@ same_place c h s c' h' s' = c == c' && (h == h' && s == s')
 -- one mark of a place on the standing cylinder set, if the place exists
 unfoldable pub with_mark : Part → ℕ → ℕ → Bool → Drive → Drive
 with_mark p h s value d =
-    record {
-      shape = d.shape;
-      lines = d.lines;
-      held = d.held;
-      cylinder = d.cylinder;
+    record d {
       marks =
           λ p' c' h' s'.
           cond (is_place d.shape d.cylinder h s && (same_part p p' && same_place d.cylinder h s c' h' s')) value (d.marks p' c' h' s');
-      bytes = d.bytes;
     }
 
 -- one byte of a place on the standing cylinder set, if it exists
 unfoldable pub with_byte : Part → ℕ → ℕ → ℕ → ℕ → Drive → Drive
 with_byte p h s i value d =
-    record {
-      shape = d.shape;
-      lines = d.lines;
-      held = d.held;
-      cylinder = d.cylinder;
-      marks = d.marks;
+    record d {
       bytes =
           λ p' c' h' s' i'.
           cond (is_byte d.shape p d.cylinder h s i && (same_part p p' && (same_place d.cylinder h s c' h' s' && i == i'))) value (d.bytes p' c' h' s' i');

@@ -14,15 +14,7 @@ left_over xs ys = drop 8 (xs ++ ys)
 
 -- a unit held for good
 unfoldable pub hold : Drive → Drive
-hold d =
-    record {
-      shape = d.shape;
-      lines = λ line. cond (same_line line Protect) true (d.lines line);
-      held = true;
-      cylinder = d.cylinder;
-      marks = d.marks;
-      bytes = d.bytes;
-    }
+hold d = record d { lines = λ line. cond (same_line line Protect) true (d.lines line); held = true }
 
 -- a collar: every unit held
 unfoldable pub all_held : List Drive → List Drive

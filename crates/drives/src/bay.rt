@@ -14,6 +14,7 @@ pub enum Bay<S> {
     Held(Collar<S>),
 }
 
+// Each method has its three arms: over an `Option` of a string, with or without a collar, they would be ten methods twice.
 #[tactic(auto, using(crate::proofs::Bays::shows_nothing, crate::proofs::Bays::changes_nothing))]
 impl<S: DriveString> DriveString for Bay<S> {
     ghost meaning = { bay_meaning S.DriveString.meaning };

@@ -12,6 +12,7 @@ pub struct Collar<S> {
     pub string: S,
 }
 
+// All but the protect line is as below; what a string passes on it writes out.
 #[tactic(auto, using(crate::proofs::Collars::held))]
 impl<S: DriveString> DriveString for Collar<S> {
     ghost meaning = { λ c. all_held (S.DriveString.meaning c.string) };
