@@ -2,7 +2,7 @@ ghost use Rattle.std.specs.Prelude.{◌≡◌, ℕ, List, length};
 ghost use Rattle.drives.specs.Drives.{shape_of, part_size};
 ghost use Rattle.drives.specs.Changes.{next_cylinder};
 ghost use Rattle.units.specs.Rows.{mark_bit, with_bit, part_start};
-ghost use Rattle.units.specs.Units.{shape_in, standing, alone, rest_of};
+ghost use Rattle.units.specs.Units.{shape_in, standing, lines_of, with_state_line, alone, rest_of};
 ghost use Rattle.units.specs.Kept.{alone_sound};
 ghost use Rattle.units.specs.Found.{Found, FoundByte};
 
@@ -43,6 +43,36 @@ impl State {
             return Geometry::none();
         }
         geometry
+    }
+
+    fn line(self, line: Line) -> bool
+        ensures { result ≡ lines_of self line }
+    {
+        match line {
+            Line::Ready => self.ready,
+            Line::Protect => self.protect,
+            Line::Fault => self.fault,
+        }
+    }
+
+    // The same with one line set.
+    fn with_line(self, line: Line, value: bool) -> State
+        ensures { result ≡ with_state_line line value self }
+    {
+        match line {
+            Line::Ready => State {
+                ready: value,
+                ..self
+            },
+            Line::Protect => State {
+                protect: value,
+                ..self
+            },
+            Line::Fault => State {
+                fault: value,
+                ..self
+            },
+        }
     }
 }
 
@@ -168,14 +198,7 @@ impl<M: Memory> DriveString for Unit<M> {
     }
 
     fn line(&self, unit: u8, line: Line) -> bool {
-        if unit != 0 {
-            return false;
-        }
-        match line {
-            Line::Ready => self.state.ready,
-            Line::Protect => self.state.protect,
-            Line::Fault => self.state.fault,
-        }
+        unit == 0 && self.state.line(line)
     }
 
     fn mark(&self, place: Place, part: Part) -> bool {
@@ -198,13 +221,8 @@ impl<M: Memory> DriveString for Unit<M> {
     }
 
     fn set_line(&mut self, unit: u8, line: Line, value: bool) {
-        if unit != 0 {
-            return;
-        }
-        match line {
-            Line::Ready => self.state.ready = value,
-            Line::Protect => self.state.protect = value,
-            Line::Fault => self.state.fault = value,
+        if unit == 0 {
+            self.state = self.state.with_line(line, value);
         }
     }
 
