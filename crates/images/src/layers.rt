@@ -22,17 +22,19 @@ pub struct StringRefusal {
 pub fn check_unit(bytes: &[u8]) -> Result<Checked, UnitRefusal>
     ensures { unit_told result ≡ unit_verdict bytes.now }
 {
-    check_image(bytes).map_err(|fault| UnitRefusal {
+    let checked = check_image(bytes).map_err(|fault| UnitRefusal {
         fault,
         position: fault.position(bytes.len()),
-    })
+    })?;
+    Ok(checked)
 }
 
 // Checks the image of the unit of that number in its string.
 pub fn check_unit_of_string(unit: usize, bytes: &[u8]) -> Result<Checked, StringRefusal>
     ensures { string_told result ≡ with_unit (unit_verdict bytes.now) unit }
 {
-    check_unit(bytes).map_err(|refusal| StringRefusal { unit, refusal })
+    let checked = check_unit(bytes).map_err(|refusal| StringRefusal { unit, refusal })?;
+    Ok(checked)
 }
 
 // Checks the images of a string's units, in their order; the first that is refused is passed up.
