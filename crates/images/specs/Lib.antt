@@ -1,3 +1,4 @@
+pub mod Fields
 pub mod Trailer
 pub mod Checks
 pub mod Refusals

@@ -1,11 +1,13 @@
 -- The trailer of an image, its last sixteen bytes, and what it says.
 use Rattle.std.specs.Prelude.{ℕ, ◌+◌, ◌-◌, ◌*◌, Bool, cond, ◌&&◌, List, length, Ok, Err, Result, ◌==◌, nat_le, nat_lt, slice_index}
-use Rattle.drives.specs.Bounds.{within}
+use Rattle.drives.specs.declared.geometry.Dimension.{Dimension}
 use Rattle.drives.specs.Drives.{Shape}
+use Rattle.drives.specs.Shapes.{bounded_shape}
 use Rattle.units.specs.Rows.{area}
 use Rattle.units.specs.declared.layout.Layout.{Layout}
 use Rattle.images.specs.declared.refusal.TrailerField.{TrailerField}
-use Rattle.images.specs.declared.refusal.TrailerField.TheVariants.{Cylinders, Heads, Slots, Length, Zeros}
+use Rattle.images.specs.declared.refusal.TrailerField.TheVariants.{Zeros}
+use Rattle.images.specs.Fields.{field_of}
 use Rattle.images.specs.declared.refusal.ImageFault.{ImageFault}
 use Rattle.images.specs.declared.refusal.ImageFault.TheVariants.{TooShort, NotMarked, OutOfBounds, WrongDistance}
 
@@ -18,18 +20,13 @@ abbrev pub marked : List ℕ → Bool
 marked image = last image 4 == 0x37 && (last image 3 == 0x32 && (last image 2 == 0x36 && last image 1 == 0x31))
 
 -- a shape within the bounds of an image: 1 to 2,048 cylinders, 1 to 8 heads, 1 to 32 slots, 128 to 4,095 data bytes; or
--- the first number that is not
+-- the trailer's field that holds the first number that is not
+abbrev pub in_field : Result Shape Dimension → Result Shape TrailerField
+in_field (Ok g) = Ok g
+in_field (Err dimension) = Err (field_of dimension)
+
 abbrev pub in_bounds : ℕ → ℕ → ℕ → ℕ → Result Shape TrailerField
-in_bounds c h s l =
-    cond (within 1 2048 c)
-    (cond (within 1 8 h)
-    (cond (within 1 32 s)
-    (cond (within 128 4095 l)
-    (Ok (record { cylinders = c; heads = h; slots = s; length = l }))
-    (Err Length))
-    (Err Slots))
-    (Err Heads))
-    (Err Cylinders)
+in_bounds c h s l = in_field (bounded_shape c h s l)
 
 -- what is left to test in an image of n bytes: the two bytes 00, and the distance back from the trailer to the first
 -- slot, which is that of all slots and not more than there is

@@ -4,12 +4,13 @@ ghost use Rattle.images.specs.declared.blank.BlankFault.TheVariants.{OutOfBounds
 ghost use Rattle.images.specs.Blank.{trailer, BlankAnswer};
 
 use crate::refusal::TrailerField;
-use crate::trailer::{area, bounded_geometry};
+use crate::trailer::bounded_geometry;
 use drives::geometry::Geometry;
 use std::alloc::{AllocError, Global};
+use units::layout::area;
 
 // Why there is no blank image.
-#[derive(Clone, Copy)]
+#[derive(Clone, Copy, Debug, PartialEq, Eq)]
 pub enum BlankFault {
     OutOfBounds(TrailerField),
     NoMemory,
@@ -51,23 +52,26 @@ pub fn blank_image(
 fn trailer_of(geometry: Geometry) -> [u8; 16]
     ensures { result ≡ trailer (shape_of geometry) }
 {
-    let distance = area(geometry);
+    let [c1, c0] = geometry.cylinders.to_be_bytes();
+    let [l1, l0] = geometry.length.to_be_bytes();
+    // the distance of the largest geometry takes four bytes
+    let [_, _, _, _, d3, d2, d1, d0] = area(geometry).to_be_bytes();
     [
-        (geometry.cylinders / 256) as u8,
-        (geometry.cylinders % 256) as u8,
+        c1,
+        c0,
         geometry.heads,
         geometry.slots,
-        (geometry.length / 256) as u8,
-        (geometry.length % 256) as u8,
+        l1,
+        l0,
         0,
         0,
-        (distance / 0x1000000 % 256) as u8,
-        (distance / 0x10000 % 256) as u8,
-        (distance / 0x100 % 256) as u8,
-        (distance % 256) as u8,
-        0x37,
-        0x32,
-        0x36,
-        0x31,
+        d3,
+        d2,
+        d1,
+        d0,
+        b'7',
+        b'2',
+        b'6',
+        b'1',
     ]
 }

@@ -1,7 +1,7 @@
 ghost use Rattle.std.specs.Prelude.{◌≡◌};
 ghost use Rattle.images.specs.Checks.{layout_of};
 ghost use Rattle.memory.specs.declared.rack.RackMemory.TheVariants.{Image as RackImage, Cartridge as RackCartridge};
-ghost use Rattle.images.specs.Fresh.{new, no_layout, fresh_state, cartridge_state, empty_cells};
+ghost use Rattle.images.specs.Fresh.{new, fresh_state, cartridge_state, empty_cells};
 
 use crate::trailer::{Checked, check_image};
 use memory::cells::Cells;
@@ -34,15 +34,17 @@ fn new_state(layout: Layout, ready: bool) -> State
 }
 
 // Where the slots of a checked image lie.
-fn layout_of(checked: Checked) -> Layout
-    ensures { result ≡ layout_of checked }
-{
-    Layout {
-        first: checked.first,
-        cylinders: checked.geometry.cylinders,
-        heads: checked.geometry.heads,
-        slots: checked.geometry.slots,
-        length: checked.geometry.length,
+impl From<Checked> for Layout {
+    ghost from_gives = { λ checked layout. layout ≡ layout_of checked };
+
+    fn from(checked: Checked) -> Layout {
+        Layout {
+            first: checked.first,
+            cylinders: checked.geometry.cylinders,
+            heads: checked.geometry.heads,
+            slots: checked.geometry.slots,
+            length: checked.geometry.length,
+        }
     }
 }
 
@@ -51,20 +53,8 @@ pub fn image_state(bytes: &[u8]) -> State
     ensures { result ≡ fresh_state bytes.now }
 {
     match check_image(bytes) {
-        Ok(checked) => new_state(layout_of(checked), true),
-        Err(_) => new_state(no_layout(), false),
-    }
-}
-
-fn no_layout() -> Layout
-    ensures { result ≡ no_layout }
-{
-    Layout {
-        first: 0,
-        cylinders: 0,
-        heads: 0,
-        slots: 0,
-        length: 0,
+        Ok(checked) => new_state(Layout::from(checked), true),
+        Err(_) => new_state(Layout::default(), false),
     }
 }
 

@@ -1,51 +1,31 @@
 ghost use Rattle.std.specs.Prelude.{◌≡◌, map};
-ghost use Rattle.images.specs.Layers.{unit_told, unit_verdict, string_told, string_verdict, with_position, with_unit};
+ghost use Rattle.images.specs.Layers.{unit_told, unit_verdict, string_told, string_verdict, with_unit};
 
 use crate::refusal::ImageFault;
 use crate::trailer::{Checked, check_image};
 
 // A refused image as its unit passes it up: with the position of the byte that it is about.
-#[derive(Clone, Copy)]
+#[derive(Clone, Copy, Debug, PartialEq, Eq)]
 pub struct UnitRefusal {
     pub fault: ImageFault,
     pub position: usize,
 }
 
 // A refused image as its string passes it up: with the number of its unit.
-#[derive(Clone, Copy)]
+#[derive(Clone, Copy, Debug, PartialEq, Eq)]
 pub struct StringRefusal {
     pub unit: usize,
     pub refusal: UnitRefusal,
-}
-
-// What the unit adds.
-fn positioned(answer: Result<Checked, ImageFault>, size: usize) -> Result<Checked, UnitRefusal>
-    ensures { result ≡ with_position answer size }
-{
-    match answer {
-        Ok(checked) => Ok(checked),
-        Err(fault) => Err(UnitRefusal {
-            fault,
-            position: fault.position(size),
-        }),
-    }
-}
-
-// What the string adds.
-fn numbered(answer: Result<Checked, UnitRefusal>, unit: usize) -> Result<Checked, StringRefusal>
-    ensures { result ≡ with_unit answer unit }
-{
-    match answer {
-        Ok(checked) => Ok(checked),
-        Err(refusal) => Err(StringRefusal { unit, refusal }),
-    }
 }
 
 // Checks the image of a unit.
 pub fn check_unit(bytes: &[u8]) -> Result<Checked, UnitRefusal>
     ensures { unit_told result ≡ unit_verdict bytes.now }
 {
-    let checked = positioned(check_image(bytes), bytes.len())?;
+    let checked = check_image(bytes).map_err(|fault| UnitRefusal {
+        fault,
+        position: fault.position(bytes.len()),
+    })?;
     Ok(checked)
 }
 
@@ -53,7 +33,7 @@ pub fn check_unit(bytes: &[u8]) -> Result<Checked, UnitRefusal>
 pub fn check_unit_of_string(unit: usize, bytes: &[u8]) -> Result<Checked, StringRefusal>
     ensures { string_told result ≡ with_unit (unit_verdict bytes.now) unit }
 {
-    let checked = numbered(check_unit(bytes), unit)?;
+    let checked = check_unit(bytes).map_err(|refusal| StringRefusal { unit, refusal })?;
     Ok(checked)
 }
 

@@ -1,9 +1,12 @@
 ghost use Rattle.std.specs.Prelude.{◌≡◌};
 ghost use Rattle.images.specs.declared.refusal.ImageFault.TheVariants.{OutOfBounds};
+ghost use Rattle.images.specs.Fields.{field_of};
 ghost use Rattle.images.specs.Refusals.{fault_number, fault_position};
 
+use drives::geometry::Dimension;
+
 // The trailer's fields that have bounds.
-#[derive(Clone, Copy)]
+#[derive(Clone, Copy, Debug, PartialEq, Eq)]
 pub enum TrailerField {
     Cylinders,
     Heads,
@@ -13,12 +16,25 @@ pub enum TrailerField {
 }
 
 // Why an image is refused.
-#[derive(Clone, Copy)]
+#[derive(Clone, Copy, Debug, PartialEq, Eq)]
 pub enum ImageFault {
     TooShort,
     NotMarked,
     OutOfBounds(TrailerField),
     WrongDistance,
+}
+
+impl From<Dimension> for TrailerField {
+    ghost from_gives = { λ dimension field. field ≡ field_of dimension };
+
+    fn from(dimension: Dimension) -> TrailerField {
+        match dimension {
+            Dimension::Cylinders => TrailerField::Cylinders,
+            Dimension::Heads => TrailerField::Heads,
+            Dimension::Slots => TrailerField::Slots,
+            Dimension::Length => TrailerField::Length,
+        }
+    }
 }
 
 impl From<TrailerField> for ImageFault {

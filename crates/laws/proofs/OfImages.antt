@@ -12,7 +12,7 @@ use Rattle.units.specs.declared.unit.State.{State}
 use Rattle.units.specs.Rows.{area}
 use Rattle.units.specs.Units.{said, fits, shape_in, unit_of}
 use Rattle.images.specs.declared.refusal.TrailerField.{TrailerField}
-use Rattle.images.specs.declared.refusal.TrailerField.TheVariants.{Cylinders, Heads, Slots, Length, Zeros}
+use Rattle.images.specs.declared.refusal.TrailerField.TheVariants.{Zeros}
 use Rattle.images.specs.declared.refusal.ImageFault.{ImageFault}
 use Rattle.images.specs.declared.refusal.ImageFault.TheVariants.{TooShort, NotMarked, OutOfBounds, WrongDistance}
 use Rattle.images.specs.Trailer.{last, marked, in_bounds, placed, then_placed, judged, verdict}
@@ -30,25 +30,14 @@ worked_distances = record { right = refl; wrong = refl; number = refl }
 
 -- an answer that is given passed every test
 tests_passed : (a b : Bool) (j : Result Layout ImageFault) (l : Layout) → cond a (Err TooShort) (cond b j (Err NotMarked)) ≡ Ok l → j ≡ Ok l
-tests_passed true b j l e = absurd (let z : ◌≡◌ {A = ℕ} 0 1 = cc in omega arith)
-tests_passed false true j l e = e
-tests_passed false false j l e = absurd (let z : ◌≡◌ {A = ℕ} 0 1 = cc in omega arith)
+tests_passed a b j l e = grind (arith, nat_tests)
 
 in_place : (a b : Bool) (k l : Layout) → cond a (cond b (Ok k) (Err WrongDistance)) (Err (OutOfBounds Zeros)) ≡ Ok l → (b ≡ true) × (k ≡ l)
-in_place true true k l e = (refl, cc)
-in_place true false k l e = absurd (let z : ◌≡◌ {A = ℕ} 0 1 = cc in omega arith)
-in_place false b k l e = absurd (let z : ◌≡◌ {A = ℕ} 0 1 = cc in omega arith)
-
-all_four : (a b c d : Bool) (k g : Shape) → cond a (cond b (cond c (cond d (Ok k) (Err Length)) (Err Slots)) (Err Heads)) (Err Cylinders) ≡ Ok g → ((a && (b && (c && d))) ≡ true) × (k ≡ g)
-all_four true true true true k g e = (refl, cc)
-all_four true true true false k g e = absurd (let z : ◌≡◌ {A = ℕ} 0 1 = cc in omega arith)
-all_four true true false d k g e = absurd (let z : ◌≡◌ {A = ℕ} 0 1 = cc in omega arith)
-all_four true false c d k g e = absurd (let z : ◌≡◌ {A = ℕ} 0 1 = cc in omega arith)
-all_four false b c d k g e = absurd (let z : ◌≡◌ {A = ℕ} 0 1 = cc in omega arith)
+in_place a b k l e = grind (arith, nat_tests)
 
 -- a shape that is in bounds is the one that was asked for
 asked : (c h s l : ℕ) (g : Shape) → in_bounds c h s l ≡ Ok g → ((within 1 2048 c && (within 1 8 h && (within 1 32 s && within 128 4095 l))) ≡ true) × (record { cylinders = c; heads = h; slots = s; length = l } ≡ g)
-asked c h s l g e = all_four (within 1 2048 c) (within 1 8 h) (within 1 32 s) (within 128 4095 l) (record { cylinders = c; heads = h; slots = s; length = l }) g e
+asked c h s l g e = grind (arith, nat_tests)
 
 asked_bounded : (c h s l : ℕ) (g : Shape) → in_bounds c h s l ≡ Ok g → bounded g.cylinders g.heads g.slots g.length ≡ true
 asked_bounded c h s l g e =
@@ -68,7 +57,7 @@ placed_fits n z d g l b e =
 
 judged_fits : (r : Result Shape TrailerField) (n z d : ℕ) (l : Layout) → ((g : Shape) → r ≡ Ok g → bounded g.cylinders g.heads g.slots g.length ≡ true) → then_placed r n z d ≡ Ok l → fits l n ≡ true
 judged_fits (Ok g) n z d l b e = placed_fits n z d g l (b g refl) e
-judged_fits (Err f) n z d l b e = absurd (let y : ◌≡◌ {A = ℕ} 0 1 = cc in omega arith)
+judged_fits (Err f) n z d l b e = absurd (grind arith)
 
 accepted_fits : (image : List ℕ) (l : Layout) → verdict image ≡ Ok l → fits l (length image) ≡ true
 unfolding verdict

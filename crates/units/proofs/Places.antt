@@ -15,7 +15,7 @@ use Rattle.drives.specs.Sound.{memory}
 use Rattle.units.specs.declared.layout.Layout.{Layout}
 use Rattle.units.specs.declared.unit.State.{State}
 use Rattle.units.specs.Rows.{slot_at, area, part_start, mark_bit, with_bit, marks_in, bytes_in, besides}
-use Rattle.units.specs.Units.{fits, said, shape_in, standing, lines_of, unit_of, alone, rest_of}
+use Rattle.units.specs.Units.{fits, said, shape_in, standing, lines_of, with_state_line, unit_of, alone, rest_of}
 use Rattle.units.specs.Found.{Missing, Standing}
 use Rattle.units.proofs.Slots.{slot_inside, bit_shows, bits_kept, part_inside, part_after}
 use Rattle.units.proofs.Writes.{marks_of, bytes_stay, marks_stay, bytes_of, rest_stays}
@@ -182,12 +182,6 @@ heads_moved direction st row u e =
     let g : Shape = shape_in st.layout (length row) in
     ap (λ n. over g (lines_of st) n st.layout.first row ∷ []) (standing_next direction g.cylinders st.cylinder)
     ∙ sym (changed_here (unit_of st row) u (pulsed direction) e)
-
--- a state with one line set
-abbrev pub with_state_line : Line → Bool → State → State
-with_state_line Ready value st = record { layout = st.layout; cylinder = st.cylinder; ready = value; protect = st.protect; fault = st.fault }
-with_state_line Protect value st = record { layout = st.layout; cylinder = st.cylinder; ready = st.ready; protect = value; fault = st.fault }
-with_state_line Fault value st = record { layout = st.layout; cylinder = st.cylinder; ready = st.ready; protect = st.protect; fault = value }
 
 with_lines : (Line → Bool) → State → List ℕ → Drive
 with_lines lines st row = over (shape_in st.layout (length row)) lines (standing st (length row)) st.layout.first row

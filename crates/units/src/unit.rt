@@ -2,11 +2,11 @@ ghost use Rattle.std.specs.Prelude.{◌≡◌, ℕ, List, length};
 ghost use Rattle.drives.specs.Drives.{shape_of, part_size};
 ghost use Rattle.drives.specs.Changes.{next_cylinder};
 ghost use Rattle.units.specs.Rows.{mark_bit, with_bit, part_start};
-ghost use Rattle.units.specs.Units.{shape_in, standing, alone, rest_of};
+ghost use Rattle.units.specs.Units.{shape_in, standing, lines_of, with_state_line, alone, rest_of};
 ghost use Rattle.units.specs.Kept.{alone_sound};
 ghost use Rattle.units.specs.Found.{Found, FoundByte};
 
-use crate::layout::Layout;
+use crate::layout::{Layout, area};
 use drives::geometry::Geometry;
 use drives::numbers::PhysicalCylinder;
 use drives::parts::{Direction, Line, Part, Place};
@@ -36,30 +36,42 @@ impl State {
         ensures { shape_of result ≡ shape_in self.layout size }
     {
         let l = self.layout;
-        if l.cylinders < 1 || l.cylinders > 2048 {
+        let Ok(geometry) = Geometry::new(l.cylinders, l.heads, l.slots, l.length) else {
+            return Geometry::none();
+        };
+        if l.first > size || area(geometry) > size - l.first {
             return Geometry::none();
         }
-        if l.heads < 1 || l.heads > 8 {
-            return Geometry::none();
+        geometry
+    }
+
+    fn line(self, line: Line) -> bool
+        ensures { result ≡ lines_of self line }
+    {
+        match line {
+            Line::Ready => self.ready,
+            Line::Protect => self.protect,
+            Line::Fault => self.fault,
         }
-        if l.slots < 1 || l.slots > 32 {
-            return Geometry::none();
-        }
-        if l.length < 128 || l.length > 4095 {
-            return Geometry::none();
-        }
-        let area = l.cylinders as usize
-            * l.heads as usize
-            * l.slots as usize
-            * (l.length as usize + 11);
-        if l.first > size || area > size - l.first {
-            return Geometry::none();
-        }
-        Geometry {
-            cylinders: l.cylinders,
-            heads: l.heads,
-            slots: l.slots,
-            length: l.length,
+    }
+
+    // The same with one line set.
+    fn with_line(self, line: Line, value: bool) -> State
+        ensures { result ≡ with_state_line line value self }
+    {
+        match line {
+            Line::Ready => State {
+                ready: value,
+                ..self
+            },
+            Line::Protect => State {
+                protect: value,
+                ..self
+            },
+            Line::Fault => State {
+                fault: value,
+                ..self
+            },
         }
     }
 }
@@ -79,8 +91,8 @@ fn with_mark(byte: u8, part: Part, value: bool) -> u8
     ensures { result ≡ with_bit part value byte }
 {
     match part {
-        Part::Id => byte / 2 * 2 + if value { 1 } else { 0 },
-        Part::Data => byte / 4 * 4 + if value { 2 } else { 0 } + byte % 2,
+        Part::Id => byte / 2 * 2 + u8::from(value),
+        Part::Data => byte / 4 * 4 + 2 * u8::from(value) + byte % 2,
     }
 }
 
@@ -150,9 +162,7 @@ impl<M: Memory> Unit<M> {
     fn find_byte(&self, place: Place, part: Part, i: u16) -> Option<usize>
         ensures { FoundByte self.now.state (M.Memory.contents self.now.memory) place.unit part place.head.0 place.slot.0 i result }
     {
-        let Some(at) = self.find(place) else {
-            return None;
-        };
+        let at = self.find(place)?;
         if i >= size_of(part, self.shape()) {
             return None;
         }
@@ -188,28 +198,17 @@ impl<M: Memory> DriveString for Unit<M> {
     }
 
     fn line(&self, unit: u8, line: Line) -> bool {
-        if unit != 0 {
-            return false;
-        }
-        match line {
-            Line::Ready => self.state.ready,
-            Line::Protect => self.state.protect,
-            Line::Fault => self.state.fault,
-        }
+        unit == 0 && self.state.line(line)
     }
 
     fn mark(&self, place: Place, part: Part) -> bool {
-        match self.find(place) {
-            Some(at) => shows(self.memory.get(at), part),
-            None => false,
-        }
+        self.find(place)
+            .is_some_and(|at| shows(self.memory.get(at), part))
     }
 
     fn byte(&self, place: Place, part: Part, i: u16) -> u8 {
-        match self.find_byte(place, part, i) {
-            Some(k) => self.memory.get(k),
-            None => 0,
-        }
+        self.find_byte(place, part, i)
+            .map_or(0, |k| self.memory.get(k))
     }
 
     fn pulse(&mut self, unit: u8, direction: Direction) {
@@ -222,13 +221,8 @@ impl<M: Memory> DriveString for Unit<M> {
     }
 
     fn set_line(&mut self, unit: u8, line: Line, value: bool) {
-        if unit != 0 {
-            return;
-        }
-        match line {
-            Line::Ready => self.state.ready = value,
-            Line::Protect => self.state.protect = value,
-            Line::Fault => self.state.fault = value,
+        if unit == 0 {
+            self.state = self.state.with_line(line, value);
         }
     }
 
