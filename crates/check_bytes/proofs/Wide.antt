@@ -1,10 +1,14 @@
 -- The two rules of sixteen bits, and a check's bytes.
-use Rattle.std.proofs.Common.{◌≡◌, ℕ, zero, suc, ◌-◌, ◌*◌, ◌/◌, ◌%◌, ◌^◌, ◌<◌, ◌≤◌, List, map, get_or, sym, refl, ap, ◌∙◌, subst, le_of_suc-le-suc, not-suc-le-zero, mul_assoc, mul_comm, pow-suc, zero-mul, arith}
+use Rattle.std.proofs.Common.{◌≡◌, ℕ, zero, suc, ◌-◌, ◌*◌, ◌/◌, ◌%◌, ◌^◌, ◌<◌, ◌≤◌, List, [], ◌∷◌, map, get_or, take, drop, take_all, inl, inr, sym, refl, ap, ◌∙◌, subst, le_of_suc-le-suc, not-suc-le-zero, mul_assoc, mul_comm, pow-suc, zero-mul, arith}
 use lib.Bits.{bit_xor, xor_shifted, xor_zero_r}
+use Rattle.std.specs.Int.{w32, to_be_bytes, to_le_bytes}
 use Rattle.std.specs.List.{range_with_len}
+use Rattle.std.proofs.lemmas.Bool.{cases_lt}
 use Rattle.std.proofs.lemmas.List.FromFn.{get_or-map-range_with_len}
-use Rattle.check_bytes.specs.Polynomials.{remainder}
-use Rattle.check_bytes.specs.Checks.{check_bytes}
+use Rattle.check_bytes.specs.Polynomials.{Degree, remainder}
+use Rattle.check_bytes.specs.Checks.{fed, check_bytes}
+use Rattle.check_bytes.proofs.Feeding.{fed_by_parts}
+use Rattle.check_bytes.proofs.Messages.{check_bytes_length}
 use Rattle.check_bytes.proofs.Xor.{xor_shl, xor_swap}
 use Rattle.check_bytes.proofs.Multiples.{Multiple, Same, multiple_0, multiple_self, multiple_sum, multiple_double}
 
@@ -42,13 +46,29 @@ folds_under n (suc k) q h =
 pub folds : (n byte : ℕ) → byte < 2 ^ 8 → Same (bit_xor (1 * 2 ^ n) 1) (byte * 2 ^ n) byte
 folds n byte h = folds_under n 8 byte h
 
--- the bytes of a check by their places
-pub byte_inside : (width value i : ℕ) → i < width → get_or (check_bytes width value) i 0 ≡ value / 2 ^ (8 * (width - 1 - i)) % 2 ^ 8
-byte_inside zero value i h = absurd (not-suc-le-zero h)
-byte_inside (suc width) value zero h = ap (λ k. value / 2 ^ (8 * k) % 2 ^ 8) (omega arith)
-byte_inside (suc width) value (suc i) h = byte_inside width value i (le_of_suc-le-suc h) ∙ ap (λ k. value / 2 ^ (8 * k) % 2 ^ 8) (omega arith)
+-- a byte step of sixteen bits by the register's two low bytes: `left` is what the byte that passes x^16 leaves
+pub fed_by_bytes : (g register byte left : ℕ) (bytes : List ℕ) → Degree g 16 → byte < 2 ^ 8 → bytes ≡ to_le_bytes w32 register → left < 2 ^ 16 → Same g (bit_xor (get_or bytes 1 0) byte * 2 ^ 16) left → bit_xor left (get_or bytes 0 0 * 2 ^ 8 % 2 ^ 32) ≡ fed g 16 register byte
+fed_by_bytes g register byte left bytes deg hb is hl same =
+    let low : get_or bytes 0 0 * 2 ^ 8 % 2 ^ 32 ≡ (register % 2 ^ 16 % 2 ^ 8) * 2 ^ 8 = rw is (omega arith) in
+    let high : get_or bytes 1 0 ≡ register % 2 ^ 16 / 2 ^ 8 = rw is (omega arith) in
+    ap (bit_xor left) low ∙ fed_by_parts g 8 register byte left deg hb hl (rw high at same)
 
-pub byte_outside : (width value i : ℕ) → width ≤ i → get_or (check_bytes width value) i 0 ≡ 0
-byte_outside zero value i h = refl
-byte_outside (suc width) value zero h = absurd (not-suc-le-zero h)
-byte_outside (suc width) value (suc i) h = byte_outside width value i (le_of_suc-le-suc h)
+-- a check's bytes are the last ones of its four
+last_bytes : (k width value : ℕ) → width ≤ k → drop (k - width) (check_bytes k value) ≡ check_bytes width value
+last_bytes zero width value h = let e : width ≡ 0 = omega arith in rw e refl
+last_bytes (suc k) width value h = elim (cases_lt k width) [
+  | inl top ↦
+      let e : width ≡ suc k = omega arith in
+      let z : suc k - width ≡ 0 = omega arith in
+      rw (z, e) refl
+  | inr lower ↦
+      let e : suc k - width ≡ suc (k - width) = omega arith in
+      rw e (last_bytes k width value lower)
+]
+
+-- as `bytes[4 - width..]` is read
+pub shown_bytes : (n width value : ℕ) (bytes : List ℕ) → 8 * width ≡ n → n ≤ 32 → bytes ≡ to_be_bytes w32 value → take (4 - (4 - width)) (drop (4 - width) bytes) ≡ check_bytes (n / 8) value
+shown_bytes n width value bytes is narrow all =
+    let four : bytes ≡ check_bytes 4 value = all ∙ ap (λ low. value / 2 ^ 24 % 256 ∷ value / 2 ^ 16 % 256 ∷ value / 2 ^ 8 % 256 ∷ low ∷ []) (omega arith) in
+    let e : n / 8 ≡ width = omega arith in
+    rw (four, e, last_bytes 4 width value (omega arith)) (take_all _ _ (omega (arith, check_bytes_length width value)))
