@@ -9,4 +9,4 @@ pub returns : goal.returns
 returns c =
     let high : ℕ = get_or c.to_le_bytes.result 1 0 in
     let left : bit_xor high c.args.byte < 256 = xor_of_8 high c.args.byte (rw c.to_le_bytes.ensures (omega arith)) (search rules) in
-    fed_by_bytes lrc16 c.args.register c.args.byte (bit_xor high c.args.byte) c.to_le_bytes.result (lit≤ tt, lit< tt) (search rules) c.to_le_bytes.ensures (omega arith) (folds 16 _ left)
+    fed_by_bytes lrc16 _ c.args.byte _ c.to_le_bytes.result (lit≤ tt, lit< tt) (search rules) c.to_le_bytes.ensures (omega arith) (folds _ left)
