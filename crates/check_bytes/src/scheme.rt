@@ -35,6 +35,7 @@ impl<R: CheckRule> CheckScheme<R> {
     }
 
     // The check bytes of the bytes, high byte first.
+    #[tactic(auto, using(crate::proofs::Wide::shown_bytes))]
     pub fn check_bytes_of(&self, heap: Global, bytes: &[u8]) -> Result<Vec<u8>, AllocError>
         ensures { IfOk result (λ v. v.items ≡ check_bytes (R.degree self.now.rule / 8) (check_by (divider R.generator R.degree self.now) bytes.now)) }
     {
