@@ -1,9 +1,8 @@
 -- The two rules of sixteen bits, and a check's bytes.
-use Rattle.std.proofs.Common.{◌≡◌, ℕ, zero, suc, ◌-◌, ◌*◌, ◌/◌, ◌%◌, ◌^◌, ◌<◌, ◌≤◌, List, [], ◌∷◌, map, get_or, take, drop, take_all, inl, inr, sym, refl, ap, ◌∙◌, zero-add, arith}
+use Rattle.std.proofs.Common.{◌≡◌, ℕ, zero, suc, ◌+◌, ◌-◌, ◌*◌, ◌/◌, ◌%◌, ◌^◌, ◌<◌, ◌≤◌, List, [], ◌∷◌, map, get_or, take, drop, take_all, sym, refl, ap, ◌∙◌, zero-add, arith}
 use lib.Bits.{bit_xor}
 use Rattle.std.specs.Int.{w32, to_be_bytes, to_le_bytes}
 use Rattle.std.specs.List.{range_with_len}
-use Rattle.std.proofs.lemmas.Bool.{cases_lt}
 use Rattle.std.proofs.lemmas.List.FromFn.{get_or-range_with_len, get_or-map-range_with_len}
 use Rattle.check_bytes.specs.Polynomials.{Degree, remainder}
 use Rattle.check_bytes.specs.Checks.{fed, check_bytes}
@@ -31,22 +30,15 @@ fed_by_bytes g register byte left bytes deg hb is hl leaves =
     let high : get_or bytes 1 0 ≡ register % 2 ^ 16 / 2 ^ 8 = rw is (omega arith) in
     ap (bit_xor left) low ∙ fed_by_parts g 8 register byte left deg hb hl (rw (leaves, high) (remainder_same g 16 8 _))
 
--- a check's bytes are the last ones of its four
-last_bytes : (k width value : ℕ) → width ≤ k → drop (k - width) (check_bytes k value) ≡ check_bytes width value
-last_bytes zero width value h = let e : width ≡ 0 = omega arith in rw e refl
-last_bytes (suc k) width value h = elim (cases_lt k width) [
-  | inl top ↦
-      let e : width ≡ suc k = omega arith in
-      let z : suc k - width ≡ 0 = omega arith in
-      rw (z, e) refl
-  | inr lower ↦
-      let e : suc k - width ≡ suc (k - width) = omega arith in
-      rw e (last_bytes k width value lower)
-]
+-- a check's bytes are the last ones of more
+last_bytes : (j k width value : ℕ) → j + width ≡ k → drop j (check_bytes k value) ≡ check_bytes width value
+last_bytes zero k width value e = let same : k ≡ width = omega arith in rw same refl
+last_bytes (suc j) zero width value e = absurd (omega arith)
+last_bytes (suc j) (suc k) width value e = last_bytes j k width value (omega arith)
 
 -- as `bytes[4 - width..]` is read
 pub shown_bytes : (n width value : ℕ) (bytes : List ℕ) → 8 * width ≡ n → n ≤ 32 → bytes ≡ to_be_bytes w32 value → take (4 - (4 - width)) (drop (4 - width) bytes) ≡ check_bytes (n / 8) value
 shown_bytes n width value bytes is narrow all =
     let four : bytes ≡ check_bytes 4 value = all ∙ ap (λ low. value / 2 ^ 24 % 256 ∷ value / 2 ^ 16 % 256 ∷ value / 2 ^ 8 % 256 ∷ low ∷ []) (omega arith) in
     let e : n / 8 ≡ width = omega arith in
-    rw (four, e, last_bytes 4 width value (omega arith)) (take_all _ _ (omega (arith, check_bytes_length width value)))
+    rw (four, e, last_bytes (4 - width) 4 width value (omega arith)) (take_all _ _ (omega (arith, check_bytes_length width value)))

@@ -30,6 +30,7 @@ impl CheckRule for Crc16 {
         2
     }
 
+    #[tactic(auto, using(crate::proofs::Wide::fed_by_bytes))]
     fn feed(&self, register: u32, byte: u8) -> u32 {
         let [low, high, ..] = register.to_le_bytes();
         left_by(high ^ byte) as u32 ^ (low as u32) << 8
