@@ -1,13 +1,14 @@
 -- A check and its bytes leave nothing, and damage within the check's width is seen.
 use Rattle.std.proofs.Common.{◌≡◌, ℕ, zero, suc, ◌+◌, ◌*◌, ◌%◌, ◌^◌, ◌<◌, ◌≤◌, true, false, List, [], ◌∷◌, ◌++◌, length, sym, ap, ◌∙◌, subst, lt_of_lt_of_le, mod-eq_of_lt, mul_assoc, pow-suc, zero-add, zero-mul, mul-one, mul-add, arith, length-append, pow_pos, pow_mono, pow-add}
 use lib.Bits.{bit_xor, xor_assoc, xor_self, xor_zero_r, xor_lt, xor_mod, xor_shifted, xor_block}
+use Rattle.std.proofs.lemmas.List.Sums.{fold-append}
 use Rattle.std.proofs.ByRecursion.{All-append}
 use Rattle.check_bytes.specs.Polynomials.{Degree, product}
 use Rattle.check_bytes.specs.Checks.{message, dividend, check_of, check_bytes}
 use Rattle.check_bytes.specs.Theorems.{Bytes, OwnCheckLeavesNothing, DamageIsSeen}
 use Rattle.check_bytes.proofs.Xor.{xor_swap, xor_zero_eq, xor_shl}
 use Rattle.check_bytes.proofs.Multiples.{Multiple, Same, multiple_shl, same_sym, same_trans, same_below}
-use Rattle.check_bytes.proofs.Messages.{spelt, spelt_append, spelt_from, spelt_sum, spelt_injective, message_lt, check_bytes_length, check_bytes_are, check_bytes_spell}
+use Rattle.check_bytes.proofs.Messages.{spelt, spelt_from, spelt_sum, spelt_injective, message_lt, check_bytes_length, check_bytes_are, check_bytes_spell}
 use Rattle.check_bytes.proofs.Feeding.{Holds, holds_check}
 
 -- a generator with a constant term divides no more by dividing twice as much
@@ -46,7 +47,7 @@ dividends_differ n start xs ys l =
 messages_differ : (before run other after : List ℕ) → Bytes after → bit_xor (message (before ++ (run ++ after))) (message (before ++ (other ++ after))) ≡ bit_xor (spelt (message before) run) (spelt (message before) other) * 2 ^ (8 * length after)
 messages_differ before run other after all =
     let part : (xs : List ℕ) → message (before ++ (xs ++ after)) ≡ spelt (spelt (message before) xs) after =
-    λ xs. spelt_append 0 before (xs ++ after) ∙ spelt_append (message before) xs after in
+    λ xs. fold-append _ 0 before (xs ++ after) ∙ fold-append _ (message before) xs after in
     ap (λ x. bit_xor x (message (before ++ (other ++ after)))) (part run)
     ∙ ap (bit_xor (spelt (spelt (message before) run) after)) (part other)
     ∙ spelt_sum (spelt (message before) run) (spelt (message before) other) after all
@@ -97,7 +98,7 @@ dividend_with width start value bytes h =
     let len : 8 * length (bytes ++ check_bytes width value) ≡ 8 * length bytes + n = simp (length-append, check_bytes_length) (mul-add 8 (length bytes) width) in
     let up : start * 2 ^ (8 * length (bytes ++ check_bytes width value)) ≡ s * 2 ^ n = ap (λ x. start * 2 ^ x) len ∙ ap (λ x. start * x) (pow-add 2 (8 * length bytes) n) ∙ sym (mul_assoc start (2 ^ (8 * length bytes)) (2 ^ n)) in
     let spell : message (bytes ++ check_bytes width value) ≡ bit_xor m value =
-    spelt_append 0 bytes (check_bytes width value) ∙ spelt_from (message bytes) (check_bytes width value)
+    fold-append _ 0 bytes (check_bytes width value) ∙ spelt_from (message bytes) (check_bytes width value)
     ∙ ap (λ x. message bytes * 2 ^ (8 * x) + message (check_bytes width value)) (check_bytes_length width value)
     ∙ ap (λ x. m + x) (check_bytes_spell width value ∙ mod-eq_of_lt h)
     ∙ sym (xor_shifted (message bytes) n value h) in

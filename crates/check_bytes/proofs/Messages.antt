@@ -1,5 +1,5 @@
 -- Byte strings as polynomials.
-use Rattle.std.proofs.Common.{◌≡◌, ℕ, zero, suc, ◌+◌, ◌*◌, ◌/◌, ◌%◌, ◌^◌, ◌<◌, List, [], ◌∷◌, ◌++◌, length, fold, sym, refl, ap, ◌∙◌, not-suc-le-zero, add-zero, mod-lt, mul_assoc, add-mul, zero-add, mul-suc, arith, lit<, pow_pos, pow-add}
+use Rattle.std.proofs.Common.{◌≡◌, ℕ, zero, suc, ◌+◌, ◌*◌, ◌/◌, ◌%◌, ◌^◌, ◌<◌, List, [], ◌∷◌, length, fold, sym, refl, ap, ◌∙◌, not-suc-le-zero, add-zero, mod-lt, mul_assoc, add-mul, zero-add, mul-suc, arith, lit<, pow_pos, pow-add}
 use lib.Bits.{bit_xor, xor_self, xor_block}
 use Rattle.std.proofs.lemmas.Nat.{mod-pow-add, mul-add-lt}
 use Rattle.check_bytes.specs.Checks.{message, check_bytes}
@@ -8,10 +8,6 @@ use Rattle.check_bytes.specs.Theorems.{Bytes}
 -- the bytes after others that came to m
 abbrev pub spelt : ℕ → List ℕ → ℕ
 spelt m bytes = fold (λ m byte. m * 2 ^ 8 + byte) m bytes
-
-pub spelt_append : (m : ℕ) (xs ys : List ℕ) → spelt m (xs ++ ys) ≡ spelt (spelt m xs) ys
-spelt_append m [] ys = refl
-spelt_append m (x ∷ xs) ys = spelt_append (m * 2 ^ 8 + x) xs ys
 
 -- 2 ^ (8 * length) of one byte more
 up_one : (b : ℕ) (bs : List ℕ) → 2 ^ (8 * length (b ∷ bs)) ≡ 2 ^ 8 * 2 ^ (8 * length bs)

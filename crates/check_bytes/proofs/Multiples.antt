@@ -1,6 +1,7 @@
 -- Multiples of a polynomial, and polynomials that differ by one.
 use Rattle.std.proofs.Common.{◌≡◌, ℕ, zero, suc, ◌+◌, ◌*◌, ◌^◌, ◌<◌, ◌≤◌, Bool, true, false, cond, ◌⊎◌, List, [], ◌∷◌, sym, refl, ap, ◌∙◌, subst, inl, inr, ⊎_elim, lt_of_lt_of_le, lt_irrefl, mul_assoc, pow-suc, mul-one, arith, pow-add}
 use lib.Bits.{bit_xor, xor_comm, xor_self, xor_zero_r, xor_lt}
+use Rattle.std.proofs.Math.Bool.{xor}
 use Rattle.std.proofs.lemmas.Bool.{cases_lt}
 use Rattle.check_bytes.specs.Polynomials.{Degree, product}
 use Rattle.check_bytes.proofs.Xor.{xor_swap, xor_cancel, xor_join, xor_zero_eq, xor_shl}
@@ -10,29 +11,25 @@ abbrev pub Multiple : ℕ → ℕ → Type 0
 Multiple g m = (q : List Bool) × (m ≡ product q g)
 
 -- the sum of two coefficients
-differs : Bool → Bool → Bool
-differs true true = false
-differs true false = true
-differs false d = d
-
-differs_is : (c d : Bool) (g : ℕ) → cond (differs c d) g 0 ≡ bit_xor (cond c g 0) (cond d g 0)
-unfolding differs
-differs_is true true g = sym (xor_self g)
-differs_is true false g = sym (xor_zero_r g)
-differs_is false d g = refl
+coefficients : (c d : Bool) (g : ℕ) → cond (xor c d) g 0 ≡ bit_xor (cond c g 0) (cond d g 0)
+unfolding xor
+coefficients true true g = sym (xor_self g)
+coefficients true false g = sym (xor_zero_r g)
+coefficients false true g = refl
+coefficients false false g = refl
 
 -- the sum of two quotients
 sum : List Bool → List Bool → List Bool
 sum [] q = q
 sum (c ∷ p) [] = c ∷ p
-sum (c ∷ p) (d ∷ q) = differs c d ∷ sum p q
+sum (c ∷ p) (d ∷ q) = xor c d ∷ sum p q
 
 sum_is : (p q : List Bool) (g : ℕ) → product (sum p q) g ≡ bit_xor (product p g) (product q g)
 unfolding sum
 sum_is [] q g = refl
 sum_is (c ∷ p) [] g = sym (xor_zero_r (product (c ∷ p) g))
 sum_is (c ∷ p) (d ∷ q) g =
-    ap (λ x. bit_xor x (product (sum p q) g * 2)) (differs_is c d g)
+    ap (λ x. bit_xor x (product (sum p q) g * 2)) (coefficients c d g)
     ∙ ap (λ x. bit_xor (bit_xor (cond c g 0) (cond d g 0)) (x * 2)) (sum_is p q g)
     ∙ ap (bit_xor (bit_xor (cond c g 0) (cond d g 0))) (xor_shl 1 (product p g) (product q g))
     ∙ xor_swap (cond c g 0) (cond d g 0) (product p g * 2) (product q g * 2)

@@ -1,5 +1,5 @@
 -- The two rules of a 7261, by their generators, both of degree 16.
-use Rattle.std.specs.Prelude.{ℕ, ◌+◌, ◌^◌}
+use Rattle.std.specs.Prelude.{ℕ, ◌+◌, ◌^◌, List, codes}
 use Rattle.check_bytes.specs.declared.kind.CheckKind.{CheckKind}
 use Rattle.check_bytes.specs.declared.kind.CheckKind.TheVariants.{Crc, Lrc}
 
@@ -15,3 +15,8 @@ lrc16 = 2 ^ 16 + 1
 abbrev pub generator_of : CheckKind → ℕ
 generator_of Crc = crc16
 generator_of Lrc = lrc16
+
+-- that generator as it is written
+abbrev pub generator_text : CheckKind → List ℕ
+generator_text Crc = codes "x^16+x^12+x^5+1"
+generator_text Lrc = codes "x^16+1"

@@ -3,7 +3,6 @@ ghost use Rattle.check_bytes.specs.Polynomials.{remainder};
 ghost use Rattle.check_bytes.specs.Rules.{crc16};
 ghost use Rattle.std.proofs.Common.{rules};
 
-use crate::halves::{high_byte, low_byte_raised};
 use crate::rule::CheckRule;
 use crate::table::REMAINDERS;
 
@@ -31,7 +30,9 @@ impl CheckRule for Crc16 {
         2
     }
 
+    #[tactic(auto, using(crate::proofs::Wide::fed_by_bytes))]
     fn feed(&self, register: u32, byte: u8) -> u32 {
-        left_by(high_byte(register) ^ byte) as u32 ^ low_byte_raised(register)
+        let [low, high, ..] = register.to_le_bytes();
+        left_by(high ^ byte) as u32 ^ (low as u32) << 8
     }
 }

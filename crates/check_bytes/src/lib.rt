@@ -3,7 +3,6 @@
 
 pub mod check;
 pub mod crc;
-mod halves;
 pub mod kind;
 pub mod lrc;
 pub mod rule;

@@ -1,7 +1,6 @@
 ghost use Rattle.check_bytes.specs.Rules.{lrc16};
 ghost use Rattle.std.proofs.Common.{rules};
 
-use crate::halves::{high_byte, low_byte_raised};
 use crate::rule::CheckRule;
 
 // The longitudinal redundancy check by x^16 + 1: the parity of each bit over the two-byte words, counted from the end.
@@ -23,6 +22,7 @@ impl CheckRule for Lrc16 {
 
     // What passes x^16 comes back at the low end.
     fn feed(&self, register: u32, byte: u8) -> u32 {
-        high_byte(register) as u32 ^ byte as u32 ^ low_byte_raised(register)
+        let [low, high, ..] = register.to_le_bytes();
+        (high ^ byte) as u32 ^ (low as u32) << 8
     }
 }

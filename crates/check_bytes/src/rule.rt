@@ -1,6 +1,6 @@
-ghost use Rattle.std.specs.Prelude.{◌≡◌, ℕ, ◌-◌, ◌*◌, ◌^◌, ◌≤◌};
+ghost use Rattle.std.specs.Prelude.{◌≡◌, ℕ, ◌*◌, ◌≤◌};
 ghost use Rattle.check_bytes.specs.Polynomials.{Degree};
-ghost use Rattle.check_bytes.specs.Checks.{fed, start_value};
+ghost use Rattle.check_bytes.specs.Checks.{fed};
 
 // What the check register holds before the first byte.
 #[derive(Clone, Copy)]
@@ -26,22 +26,4 @@ pub trait CheckRule {
     ghost shaped: { (rule : Self) → Degree (generator rule) (degree rule) };
 
     ghost narrow: { (rule : Self) → degree rule ≤ 32 };
-}
-
-// The register before the first byte.
-pub fn start_register<R: CheckRule>(rule: &R, start: Start) -> u32
-    ensures { result ≡ start_value start (R.degree rule.now) }
-{
-    match start {
-        Start::Zeros => 0,
-        Start::Ones => all_ones(rule.width()),
-    }
-}
-
-// So many bytes of ones.
-fn all_ones(width: u8) -> u32
-    requires { width ≤ 4 }
-    ensures { result ≡ 2 ^ (8 * width) - 1 }
-{
-    ((1u64 << (8 * width)) - 1) as u32
 }

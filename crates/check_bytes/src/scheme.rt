@@ -1,9 +1,8 @@
-ghost use Rattle.std.specs.Prelude.{◌≡◌, ◌/◌, IfOk};
+ghost use Rattle.std.specs.Prelude.{◌≡◌, ◌-◌, ◌*◌, ◌/◌, ◌^◌, ◌≤◌, IfOk};
 ghost use Rattle.check_bytes.specs.Checks.{check_bytes};
 ghost use Rattle.check_bytes.specs.Schemes.{divider, check_by};
 
-use crate::check::{check_bytes_of, check_of};
-use crate::rule::{CheckRule, Start, start_register};
+use crate::rule::{CheckRule, Start};
 use std::alloc::{AllocError, Global};
 
 // All that the check of some bytes depends on besides them: a rule, and what its register starts with.
@@ -18,20 +17,37 @@ impl<R: CheckRule> CheckScheme<R> {
     pub fn start_register(&self) -> u32
         ensures { result ≡ (divider R.generator R.degree self.now).start }
     {
-        start_register(&self.rule, self.start)
+        match self.start {
+            Start::Zeros => 0,
+            Start::Ones => all_ones(self.rule.width()),
+        }
     }
 
     // The check of the bytes, byte after byte.
     pub fn check_of(&self, bytes: &[u8]) -> u32
         ensures { result ≡ check_by (divider R.generator R.degree self.now) bytes.now }
     {
-        check_of(&self.rule, self.start, bytes)
+        let mut register = self.start_register();
+        for byte in bytes {
+            register = self.rule.feed(register, *byte);
+        }
+        register
     }
 
     // The check bytes of the bytes, high byte first.
+    #[tactic(auto, using(crate::proofs::Wide::shown_bytes))]
     pub fn check_bytes_of(&self, heap: Global, bytes: &[u8]) -> Result<Vec<u8>, AllocError>
         ensures { IfOk result (λ v. v.items ≡ check_bytes (R.degree self.now.rule / 8) (check_by (divider R.generator R.degree self.now) bytes.now)) }
     {
-        check_bytes_of(heap, &self.rule, self.start, bytes)
+        let bytes = self.check_of(bytes).to_be_bytes();
+        Vec::from_slice(heap, &bytes[4 - self.rule.width() as usize..])
     }
+}
+
+// So many bytes of ones.
+fn all_ones(width: u8) -> u32
+    requires { width ≤ 4 }
+    ensures { result ≡ 2 ^ (8 * width) - 1 }
+{
+    ((1u64 << (8 * width)) - 1) as u32
 }

@@ -28,6 +28,7 @@ pub fn checks_detect() -> u8
 }
 
 // The worked examples.
+#[tactic(auto, unfolding(crate::specs::Polynomials::remainder, crate::specs::Checks::check_of))]
 pub fn examples_stand() -> u8
     ensures { Examples }
 {

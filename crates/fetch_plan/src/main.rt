@@ -5,23 +5,31 @@ mod rack;
 mod sample;
 mod text;
 
-use check_bytes::check::check_bytes_of;
 use check_bytes::kind::CheckKind;
 use check_bytes::rule::Start;
+use check_bytes::scheme::CheckScheme;
 use plans::plan::Plan;
 use text::{FaultText, Hex, PlanText};
+
+// What guards a record on the drive.
+const GUARD: CheckScheme<CheckKind> = CheckScheme {
+    rule: CheckKind::Crc,
+    start: Start::Ones,
+};
 
 // Shows the plan, its record, and the record's check bytes.
 fn show_plan(rt: &HostRuntime, plan: &Plan) -> anyhow::Result<()> {
     let heap = rt.alloc();
     let record = plan.encode(heap)?;
-    let check = check_bytes_of(heap, &CheckKind::Crc, Start::Ones, record.as_slice())?;
+    let check = GUARD.check_bytes_of(heap, record.as_slice())?;
     let bytes = Hex(record.as_slice());
     let guard = Hex(check.as_slice());
+    let rule = GUARD.rule;
+    let start = GUARD.start_register();
     let words = PlanText(plan);
     println!(rt; "The plan: {words}")?;
     println!(rt; "Its record: {bytes}")?;
-    println!(rt; "Its check bytes, x^16+x^12+x^5+1 from FFFF: {guard}")?;
+    println!(rt; "Its check bytes, {rule} from {start:04X}: {guard}")?;
     Ok(())
 }
 

@@ -1,73 +1,36 @@
 use check_bytes::kind::CheckKind;
 use check_bytes::rule::Start;
-use std::alloc::{AllocError, Global};
+use check_bytes::scheme::CheckScheme;
 
-// The generators, highest coefficient first.
-const CRC: [bool; 17] = [
-    true, false, false, false, true, false, false, false, false, false, false, true, false, false,
-    false, false, true,
-];
-
-const LRC: [bool; 17] = [
-    true, false, false, false, false, false, false, false, false, false, false, false, false,
-    false, false, false, true,
-];
-
-// The dividend's bits, highest first: the bytes, then sixteen zeros, the first sixteen turned over where the register starts at ones.
-fn dividend(heap: Global, start: Start, bytes: &[u8]) -> Result<Vec<bool>, AllocError> {
-    let mut bits = Vec::new(heap);
-    for byte in bytes {
-        for place in (0u8..8).rev() {
-            bits.push((*byte >> place) & 1 == 1)?;
-        }
-    }
-    for _ in 0u8..16 {
-        bits.push(false)?;
-    }
-    if let Start::Ones = start {
-        for bit in bits.iter_mut().take(16) {
-            *bit = !*bit;
-        }
-    }
-    Ok(bits)
-}
-
-// Takes the generator away from the bits that begin here.
-fn subtract(bits: &mut [bool], generator: &[bool; 17]) {
-    for (bit, coefficient) in bits.iter_mut().zip(generator.iter()) {
-        *bit = *bit != *coefficient;
-    }
-}
-
-// The last sixteen bits as a number.
-fn last_sixteen(bits: &[bool]) -> u32 {
-    let mut number = 0u32;
-    for bit in bits.iter().rev().take(16).rev() {
-        number = number % 0x8000 * 2 + if *bit { 1 } else { 0 };
-    }
-    number
-}
-
-// Long division as on paper, a coefficient after the other; what is left stands in the last sixteen bits.
-fn reduce(bits: &mut [bool], generator: &[bool; 17]) {
-    for i in 0..bits.len().saturating_sub(16) {
-        if bits[i] {
-            subtract(&mut bits[i..], generator);
-        }
-    }
-}
-
-// The remainder by long division, which shares nothing with the check register.
-pub fn divide(
-    heap: Global,
-    kind: CheckKind,
-    start: Start,
-    bytes: &[u8],
-) -> Result<u32, AllocError> {
-    let mut bits = dividend(heap, start, bytes)?;
+// The generator: bit i is the coefficient of x^i.
+fn generator(kind: CheckKind) -> u32 {
     match kind {
-        CheckKind::Crc => reduce(bits.as_mut_slice(), &CRC),
-        CheckKind::Lrc => reduce(bits.as_mut_slice(), &LRC),
+        CheckKind::Crc => 0x11021,
+        CheckKind::Lrc => 0x10001,
     }
-    Ok(last_sixteen(bits.as_slice()))
+}
+
+// Brings the eight coefficients of a byte down, highest first, and takes the generator away where it fits.
+fn bring_down(generator: u32, left: u32, byte: u8) -> u32 {
+    (0u8..8).rev().fold(left, |left, place| {
+        let next = left << 1 | (byte >> place & 1) as u32;
+        if next >= 0x10000 {
+            next ^ generator
+        } else {
+            next
+        }
+    })
+}
+
+// The remainder by long division as on paper, which shares no code with the check register. The dividend is the bytes
+// and sixteen zeros, its first sixteen coefficients turned over where the register starts at ones.
+pub fn divide(scheme: CheckScheme<CheckKind>, bytes: &[u8]) -> u32 {
+    let generator = generator(scheme.rule);
+    let from_ones = matches!(scheme.start, Start::Ones);
+    bytes
+        .iter()
+        .chain(&[0, 0])
+        .enumerate()
+        .map(|(i, byte)| if from_ones && i < 2 { !*byte } else { *byte })
+        .fold(0, |left, byte| bring_down(generator, left, byte))
 }

@@ -6,44 +6,52 @@ mod cases;
 mod division;
 mod published;
 mod row;
+mod schemes;
 
 use anyhow::anyhow;
 use cases::{CASES, case_bytes};
 use division::divide;
 use published::VECTORS;
 use row::Row;
+use std::alloc::{AllocError, Global};
 
-// Whether all of the given values agree.
-fn published_table(rt: &HostRuntime) -> anyhow::Result<bool> {
-    println!(rt; "Values given elsewhere:")?;
-    let mut agree = true;
-    for vector in &VECTORS {
-        let row = Row::of(vector.kind, vector.start, vector.bytes, vector.expected);
-        let source = vector.source;
-        println!(rt; "{row}  ({source})")?;
-        agree = agree && row.agrees();
-    }
-    Ok(agree)
+// The given values.
+fn published_rows(heap: Global) -> Result<Vec<Row>, AllocError> {
+    VECTORS
+        .iter()
+        .map(|v| Row::of(v.scheme, v.bytes, v.expected, Some(v.source)))
+        .collect(heap)
 }
 
-// Whether all of the divisions agree.
-fn division_table(rt: &HostRuntime) -> anyhow::Result<bool> {
-    println!(rt; "Compared with a plain bitwise long division in this program:")?;
-    let heap = rt.alloc();
-    let mut agree = true;
-    for case in &CASES {
-        let bytes = case_bytes(heap, case)?;
-        let expected = divide(heap, case.kind, case.start, bytes.as_slice())?;
-        let row = Row::of(case.kind, case.start, bytes.as_slice(), expected);
+// The divisions.
+fn division_rows(heap: Global) -> Result<Vec<Row>, AllocError> {
+    CASES
+        .iter()
+        .map(|case| {
+            let bytes = case_bytes(heap, case)?;
+            let expected = divide(case.scheme, bytes.as_slice());
+            Ok(Row::of(case.scheme, bytes.as_slice(), expected, None))
+        })
+        .try_collect(heap)
+}
+
+// Shows the rows, and answers whether all of them agree.
+fn show(rt: &HostRuntime, heading: &str, rows: Vec<Row>) -> anyhow::Result<bool> {
+    println!(rt; "{heading}:")?;
+    for row in &rows {
         println!(rt; "{row}")?;
-        agree = agree && row.agrees();
     }
-    Ok(agree)
+    Ok(rows.iter().all(Row::agrees))
 }
 
 fn run(rt: &HostRuntime) -> anyhow::Result<()> {
-    let published = published_table(rt)?;
-    let divided = division_table(rt)?;
+    let heap = rt.alloc();
+    let published = show(rt, "Values given elsewhere", published_rows(heap)?)?;
+    let divided = show(
+        rt,
+        "Compared with a plain bitwise long division in this program",
+        division_rows(heap)?,
+    )?;
     if !published || !divided {
         return Err(anyhow!("a check differs from the value that it should have"));
     }

@@ -1,5 +1,5 @@
 -- The table is the list of remainders that antt computes.
-use Rattle.std.proofs.Common.{◌<◌, rules}
+use Rattle.std.proofs.Common.{rules}
 use Rattle.check_bytes.specs.Polynomials.{remainder}
 use Rattle.check_bytes.specs.Rules.{crc16}
 use Rattle.check_bytes.proofs.Wide.{entry_is}
@@ -7,4 +7,4 @@ use Rattle.check_bytes.proofs.crc.left_by.Goals as goal
 
 pub returns : goal.returns
 unfolding remainder
-returns c = let h : c.args.byte < 256 = search rules in entry_is crc16 16 c.args.byte h
+returns c = entry_is crc16 16 c.args.byte (search rules)

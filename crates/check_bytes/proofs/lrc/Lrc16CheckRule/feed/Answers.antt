@@ -1,18 +1,12 @@
-use Rattle.std.proofs.Common.{ℕ, ◌/◌, ◌%◌, ◌<◌, ap, ◌∙◌, arith, lit<, lit≤, rules}
-use lib.Bits.{bit_xor, xor_lt}
+use Rattle.std.proofs.Common.{ℕ, ◌<◌, get_or, arith, lit<, lit≤, rules}
+use lib.Bits.{bit_xor}
+use Rattle.std.proofs.lemmas.Nat.{xor_of_8}
 use Rattle.check_bytes.specs.Rules.{lrc16}
-use Rattle.check_bytes.proofs.Feeding.{fed_by_parts}
-use Rattle.check_bytes.proofs.Wide.{folds}
+use Rattle.check_bytes.proofs.Wide.{folds, fed_by_bytes}
 use Rattle.check_bytes.proofs.lrc.Lrc16CheckRule.feed.Goals as goal
 
 pub returns : goal.returns
 returns c =
-    let r : ℕ = c.args.register in
-    let b : ℕ = c.args.byte in
-    let hb : b < 256 = search rules in
-    let high : ℕ = bit_xor (r % 65536 / 256) b in
-    let h : r % 65536 / 256 < 256 = omega arith in
-    let hh : high < 256 = xor_lt 8 (r % 65536 / 256) b h hb in
-    ap (λ x. bit_xor (bit_xor x b) c.low_byte_raised.result) c.high_byte.ensures
-    ∙ ap (bit_xor high) c.low_byte_raised.ensures
-    ∙ fed_by_parts lrc16 8 r b high (lit≤ tt, lit< tt) hb (omega arith) (folds 16 high hh)
+    let high : ℕ = get_or c.to_le_bytes.result 1 0 in
+    let left : bit_xor high c.args.byte < 256 = xor_of_8 high c.args.byte (rw c.to_le_bytes.ensures (omega arith)) (search rules) in
+    fed_by_bytes lrc16 _ c.args.byte _ c.to_le_bytes.result (lit≤ tt, lit< tt) (search rules) c.to_le_bytes.ensures (omega arith) (folds _ left)
