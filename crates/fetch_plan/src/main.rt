@@ -9,7 +9,7 @@ use check_bytes::check::check_bytes_of;
 use check_bytes::kind::CheckKind;
 use check_bytes::rule::Start;
 use plans::plan::Plan;
-use text::{FaultText, Hex, PlanText};
+use text::Hex;
 
 // Shows the plan, its record, and the record's check bytes.
 fn show_plan(rt: &HostRuntime, plan: &Plan) -> anyhow::Result<()> {
@@ -18,8 +18,7 @@ fn show_plan(rt: &HostRuntime, plan: &Plan) -> anyhow::Result<()> {
     let check = check_bytes_of(heap, &CheckKind::Crc, Start::Ones, record.as_slice())?;
     let bytes = Hex(record.as_slice());
     let guard = Hex(check.as_slice());
-    let words = PlanText(plan);
-    println!(rt; "The plan: {words}")?;
+    println!(rt; "The plan: {plan}")?;
     println!(rt; "Its record: {bytes}")?;
     println!(rt; "Its check bytes, x^16+x^12+x^5+1 from FFFF: {guard}")?;
     Ok(())
@@ -28,14 +27,8 @@ fn show_plan(rt: &HostRuntime, plan: &Plan) -> anyhow::Result<()> {
 // Shows what the bytes of a record say.
 fn show_record(rt: &HostRuntime, what: &str, record: &[u8]) -> anyhow::Result<()> {
     match Plan::decode(rt.alloc(), record) {
-        Ok(plan) => {
-            let words = PlanText(&plan);
-            println!(rt; "{what}: {words}")?;
-        }
-        Err(fault) => {
-            let words = FaultText(fault);
-            println!(rt; "{what}: no plan, since {words}")?;
-        }
+        Ok(plan) => println!(rt; "{what}: {plan}")?,
+        Err(fault) => println!(rt; "{what}: no plan, since {fault}")?,
     }
     Ok(())
 }
@@ -54,10 +47,7 @@ fn run(rt: &HostRuntime) -> anyhow::Result<()> {
                 record.as_slice(),
             )?;
         }
-        Err(fault) => {
-            let words = FaultText(fault);
-            println!(rt; "The plan is not legal: {words}")?;
-        }
+        Err(fault) => println!(rt; "The plan is not legal: {fault}")?,
     }
     rack::show_rack(rt)
 }
