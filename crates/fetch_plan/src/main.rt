@@ -9,7 +9,7 @@ use check_bytes::kind::CheckKind;
 use check_bytes::rule::Start;
 use check_bytes::scheme::CheckScheme;
 use plans::plan::Plan;
-use text::{FaultText, Hex, PlanText};
+use text::Hex;
 
 // What guards a record on the drive.
 const GUARD: CheckScheme<CheckKind> = CheckScheme {
@@ -26,8 +26,7 @@ fn show_plan(rt: &HostRuntime, plan: &Plan) -> anyhow::Result<()> {
     let guard = Hex(check.as_slice());
     let rule = GUARD.rule;
     let start = GUARD.start_register();
-    let words = PlanText(plan);
-    println!(rt; "The plan: {words}")?;
+    println!(rt; "The plan: {plan}")?;
     println!(rt; "Its record: {bytes}")?;
     println!(rt; "Its check bytes, {rule} from {start:04X}: {guard}")?;
     Ok(())
@@ -36,14 +35,8 @@ fn show_plan(rt: &HostRuntime, plan: &Plan) -> anyhow::Result<()> {
 // Shows what the bytes of a record say.
 fn show_record(rt: &HostRuntime, what: &str, record: &[u8]) -> anyhow::Result<()> {
     match Plan::decode(rt.alloc(), record) {
-        Ok(plan) => {
-            let words = PlanText(&plan);
-            println!(rt; "{what}: {words}")?;
-        }
-        Err(fault) => {
-            let words = FaultText(fault);
-            println!(rt; "{what}: no plan, since {words}")?;
-        }
+        Ok(plan) => println!(rt; "{what}: {plan}")?,
+        Err(fault) => println!(rt; "{what}: no plan, since {fault}")?,
     }
     Ok(())
 }
@@ -62,10 +55,7 @@ fn run(rt: &HostRuntime) -> anyhow::Result<()> {
                 record.as_slice(),
             )?;
         }
-        Err(fault) => {
-            let words = FaultText(fault);
-            println!(rt; "The plan is not legal: {words}")?;
-        }
+        Err(fault) => println!(rt; "The plan is not legal: {fault}")?,
     }
     rack::show_rack(rt)
 }

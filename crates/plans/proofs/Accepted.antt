@@ -1,5 +1,5 @@
 -- Bytes that say a plan are that plan's bytes, with padding.
-use Rattle.std.proofs.Common.{◌≡◌, ℕ, zero, suc, ◌+◌, ◌*◌, ◌/◌, ◌%◌, ◌<◌, ◌≤◌, Bool, true, false, cond, ◌&&◌, eqb, ltb, List, [], ◌∷◌, ◌++◌, length, get_or, drop, replicate, Some, None, Ok, Err, Option, Result, sym, refl, ap, ◌∙◌, subst, arith}
+use Rattle.std.proofs.Common.{◌≡◌, ℕ, zero, suc, ◌+◌, ◌*◌, ◌/◌, ◌%◌, ◌<◌, ◌≤◌, Bool, true, false, not, cond, ◌&&◌, eqb, ltb, List, [], ◌∷◌, ◌++◌, length, get_or, drop, replicate, Some, None, Ok, Err, Option, Result, sym, refl, ap, ◌∙◌, subst, arith}
 use Rattle.std.proofs.ByRecursion.{All-get_or}
 use Rattle.std.proofs.lemmas.List.{drop-drop, drop_at}
 use Rattle.std.proofs.lemmas.Bool.{and_parts, eqb-true, ltb-false}
@@ -71,7 +71,7 @@ stages_front (suc n) k (b ∷ g ∷ i ∷ bs) ss e =
       ),
     )
 
-byte_passed : (b i : ℕ) (o : Option ℕ) → cond (eqb b 0) o (Some i) ≡ None → (b ≡ 0) × (o ≡ None)
+byte_passed : (b i : ℕ) (o : Option ℕ) → cond (not (eqb b 0)) (Some i) o ≡ None → (b ≡ 0) × (o ≡ None)
 byte_passed b i o e = grind (arith, nat_tests)
 
 -- padding is nothing but zeros

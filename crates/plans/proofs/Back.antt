@@ -52,7 +52,7 @@ same_junction p k =
 
 pub encoding_is_read_back : EncodingIsReadBack
 encoding_is_read_back p k l =
-    decoded_head (padded p k) (omega arith) refl refl refl
+    decoded_head (padded p k) (omega arith) refl refl
     ∙ ap (with_stages (padded p k)) (stages_back p.stages 1 (replicate k 0))
     ∙ ap (λ o. when_padded o (judged (plan_with (padded p k) p.stages))) (padding_passes p k)
     ∙ ap judged (same_junction p k)

@@ -1,5 +1,5 @@
 -- What is decided once a header is known to be one.
-use Rattle.std.proofs.Common.{◌≡◌, ℕ, ◌+◌, ◌-◌, ◌*◌, ◌≤◌, ◌⊎◌, List, length, get_or, take, drop, Ok, Err, Option, Result, sym, ap, ◌∙◌, inl, inr, ⊎_elim, arith}
+use Rattle.std.proofs.Common.{◌≡◌, ℕ, ◌+◌, ◌-◌, ◌*◌, ◌≤◌, ◌⊎◌, true, false, not, ◌&&◌, eqb, List, length, get_or, take, drop, Ok, Err, Option, Result, sym, ap, ◌∙◌, inl, inr, ⊎_elim, arith}
 use Rattle.std.proofs.lemmas.List.{take_rest}
 use Rattle.std.proofs.lemmas.Bool.Decides.{nat_tests}
 use Rattle.plans.specs.declared.fault.PlanFault.{PlanFault}
@@ -15,7 +15,7 @@ abbrev pub plan_with : List ℕ → List Stage → PlanData
 plan_with bs ss =
     record { junction = get_or bs 3 0 * 256 + get_or bs 4 0; number = get_or bs 5 0; cycle = get_or bs 6 0; offset = get_or bs 7 0; stages = ss }
 
-module _ (bs : List ℕ) (long : 9 ≤ length bs) (s : get_or bs 0 0 ≡ 0x53) (p : get_or bs 1 0 ≡ 0x50) (v : get_or bs 2 0 ≡ 1) where
+module _ (bs : List ℕ) (long : 9 ≤ length bs) (mark : false ≡ not (eqb (get_or bs 0 0) 0x53 && (eqb (get_or bs 1 0) 0x50 && true))) (v : get_or bs 2 0 ≡ 1) where
   pub decoded_head : decoded bs ≡ with_stages bs (stages_in (get_or bs 8 0) 1 (drop 9 bs))
   decoded_head = grind (arith, nat_tests)
 

@@ -2,9 +2,11 @@
 use Rattle.std.proofs.Common.{◌≡◌, ℕ, ◌+◌, ◌≤◌, Bool, true, false, not, eqb, ltb, leb, List, [], ◌∷◌, length, is_some, Some, None, Option, refl, ap, ◌∙◌, arith}
 use Rattle.std.specs.List.{AllByRecursion}
 use Rattle.std.proofs.lemmas.Bool.{and_parts, and_from, leb-true, le-leb, ltb-true, lt-ltb, eqb-true, eq-eqb}
+use Rattle.std.proofs.lemmas.List.Sums.{sum_by-cons}
 use Rattle.plans.specs.declared.fault.PlanFault.{PlanFault}
 use Rattle.plans.specs.declared.fault.PlanFault.TheVariants.{NoJunction, NoNumber, CycleOutOfRange, OffsetOutOfRange, StageCount, CycleNotFilled}
 use Rattle.plans.specs.declared.stage.Stage.{Stage}
+use Rattle.plans.specs.Stages.{stage_seconds}
 use Rattle.plans.specs.Rules.{PlanData, Legal, LegalStage, within, unless, or_else, times_fault, stage_fault, total, fault_in}
 use Rattle.plans.specs.Theorems.{TestsAreTheRules, EachPlanIsLegal}
 use Rattle.plans.specs.Told.{plan_of}
@@ -38,6 +40,7 @@ stages_passed : (n : ℕ) (ss : List Stage) → stage_fault n ss ≡ None → to
 stages_passed n [] e h = tt
 stages_passed n (s ∷ ss) e h =
     let p = or_else_none (times_fault n s) (stage_fault (n + 1) ss) e in
+    let sum = sum_by-cons stage_seconds s ss in
     (stage_passed n s p.0 (omega arith), stages_passed (n + 1) ss p.1 (omega arith))
 
 legal_stages : (n : ℕ) (ss : List Stage) → AllByRecursion LegalStage ss → stage_fault n ss ≡ None

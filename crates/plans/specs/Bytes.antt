@@ -1,5 +1,6 @@
 -- A plan as the bytes of its record, and what bytes say.
-use Rattle.std.specs.Prelude.{ℕ, zero, suc, ◌+◌, ◌*◌, ◌/◌, ◌%◌, cond, ◌&&◌, List, [], ◌∷◌, ◌++◌, length, drop, Some, None, Ok, Err, Option, Result, ◌==◌, nat_lt, slice_index}
+use Rattle.std.specs.Prelude.{ℕ, zero, suc, ◌+◌, ◌*◌, ◌/◌, ◌%◌, not, cond, ◌&&◌, List, [], ◌∷◌, ◌++◌, length, drop, Some, None, Ok, Err, Option, Result, ◌==◌, nat_lt, slice_index}
+use Rattle.std.specs.List.{flat_map, position_from}
 use Rattle.plans.specs.declared.stage.Movement.{Movement}
 use Rattle.plans.specs.declared.stage.Stage.{Stage}
 use Rattle.plans.specs.declared.fault.PlanFault.{PlanFault}
@@ -13,8 +14,7 @@ stage_bytes s = movement_code s.movement ∷ s.green ∷ s.intergreen ∷ []
 
 -- the bytes of all stages
 abbrev pub stages_bytes : List Stage → List ℕ
-stages_bytes [] = []
-stages_bytes (s ∷ ss) = stage_bytes s ++ stages_bytes ss
+stages_bytes ss = flat_map stage_bytes ss
 
 -- the nine bytes before the stages
 abbrev pub header_bytes : PlanData → List ℕ
@@ -45,8 +45,7 @@ stages_in (suc n) k (b ∷ g ∷ i ∷ bs) = with_stage (movement_of b) k b g i 
 
 -- the position of the first byte that is not 0; the first byte's position is i
 abbrev pub stray : ℕ → List ℕ → Option ℕ
-stray i [] = None
-stray i (b ∷ bs) = cond (b == 0) (stray (i + 1) bs) (Some i)
+stray i bs = position_from (λ b. not (b == 0)) i bs
 
 -- the answer where the padding is as it should be, else the fault
 abbrev pub when_padded : Option ℕ → Result PlanData PlanFault → Result PlanData PlanFault

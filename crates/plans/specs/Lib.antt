@@ -3,3 +3,4 @@ pub mod Rules
 pub mod Told
 pub mod Bytes
 pub mod Theorems
+pub mod Texts

@@ -1,8 +1,9 @@
 -- A plan as plain values, and the rules that a legal plan meets.
-use Rattle.std.specs.Prelude.{◌≡◌, ℕ, ◌+◌, ◌<◌, ◌≤◌, Bool, cond, not, ◌&&◌, List, [], ◌∷◌, length, is_some, Some, None, Ok, Err, Option, Result, ◌==◌, nat_le, nat_lt}
+use Rattle.std.specs.Prelude.{◌≡◌, ℕ, ◌+◌, ◌<◌, ◌≤◌, Bool, cond, not, ◌&&◌, List, [], ◌∷◌, length, vec_items, is_some, sum_by, Some, None, Ok, Err, Option, Result, ◌==◌, nat_le, nat_lt}
 use Rattle.std.specs.List.{AllByRecursion}
 use Rattle.plans.specs.declared.stage.Stage.{Stage}
 use Rattle.plans.specs.declared.fault.PlanFault.{PlanFault}
+use Rattle.plans.specs.declared.plan.PlanValues.{PlanValues}
 use Rattle.plans.specs.declared.fault.PlanFault.TheVariants.{NoJunction, NoNumber, CycleOutOfRange, OffsetOutOfRange, StageCount, GreenTooShort, IntergreenOutOfRange, CycleNotFilled}
 use Rattle.plans.specs.Stages.{stage_seconds}
 
@@ -14,10 +15,14 @@ pub record PlanData : Type 0 where
   pub offset : ℕ
   pub stages : List Stage
 
+-- the plain values that the code's values stand for
+abbrev pub data_of : PlanValues → PlanData
+data_of v =
+    record { junction = v.junction; number = v.number; cycle = v.cycle; offset = v.offset; stages = vec_items v.stages }
+
 -- the seconds of all stages together
 abbrev pub total : List Stage → ℕ
-total [] = 0
-total (s ∷ ss) = stage_seconds s + total ss
+total ss = sum_by stage_seconds ss
 
 -- the rules for one stage
 pub record LegalStage (s : Stage) : Type 0 where
@@ -81,10 +86,10 @@ fault_in p =
 abbrev pub passes : PlanData → Bool
 passes p = not (is_some (fault_in p))
 
--- a plan, unless it has a fault
-abbrev pub answer : PlanData → Option PlanFault → Result PlanData PlanFault
-answer p (Some f) = Err f
-answer p None = Ok p
+-- a value, unless there is a fault
+abbrev pub answer : {X : Type 0} → X → Option PlanFault → Result X PlanFault
+answer x (Some f) = Err f
+answer x None = Ok x
 
 -- what the tests answer to a plan's values
 abbrev pub judged : PlanData → Result PlanData PlanFault

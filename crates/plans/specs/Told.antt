@@ -1,14 +1,13 @@
 -- What the code's values and answers say.
-use Rattle.std.specs.Prelude.{◌≡◌, ◌⊎◌, Ok, Err, vec_items, Result}
+use Rattle.std.specs.Prelude.{◌≡◌, ◌⊎◌, Ok, Err, Result}
 use Rattle.plans.specs.declared.fault.PlanFault.{PlanFault}
 use Rattle.plans.specs.declared.fault.PlanFault.TheVariants.{Memory}
 use Rattle.plans.specs.declared.plan.Plan.{Plan}
-use Rattle.plans.specs.Rules.{PlanData}
+use Rattle.plans.specs.Rules.{PlanData, data_of}
 
 -- a plan's values
 abbrev pub plan_of : Plan → PlanData
-plan_of p =
-    record { junction = p.junction; number = p.number; cycle = p.cycle; offset = p.offset; stages = vec_items p.stages }
+plan_of p = data_of p.values
 
 -- an answer of the code, by the plan's values
 abbrev pub told : Result Plan PlanFault → Result PlanData PlanFault

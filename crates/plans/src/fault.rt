@@ -5,7 +5,7 @@ ghost use Rattle.plans.specs.declared.fault.PlanFault.TheVariants.{Memory};
 use std::alloc::{AllocError, AllocFailed};
 
 // In the order of the tests. Stages are counted from 1.
-#[derive(Clone, Copy)]
+#[derive(Clone, Copy, Debug, PartialEq, Eq)]
 pub enum PlanFault {
     Short,
     NotAPlan,
@@ -38,3 +38,5 @@ impl<T: Drop> From<AllocFailed<T>> for PlanFault {
         PlanFault::Memory
     }
 }
+
+mod display;

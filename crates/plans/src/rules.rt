@@ -1,8 +1,9 @@
 // The tests of a plan's values, each written once.
 ghost use Rattle.std.specs.Prelude.{◌≡◌, ◌≤◌, length};
-ghost use Rattle.plans.specs.Rules.{PlanData, fault_in, stage_fault, times_fault, total};
+ghost use Rattle.plans.specs.Rules.{answer, data_of, fault_in, stage_fault, times_fault, total};
 
 use crate::fault::PlanFault;
+use crate::plan::PlanValues;
 use crate::stage::Stage;
 
 const SHORTEST_CYCLE: u8 = 20;
@@ -19,73 +20,63 @@ const SHORTEST_INTERGREEN: u8 = 3;
 
 const LONGEST_INTERGREEN: u8 = 15;
 
-// The first fault of a plan with these values.
-pub fn fault_of(
-    junction: u16,
-    number: u8,
-    cycle: u8,
-    offset: u8,
-    stages: &[Stage],
-) -> Option<PlanFault>
-    ensures { result ≡ fault_in (record { junction = junction; number = number; cycle = cycle; offset = offset; stages = stages.now }) }
-{
-    if junction == 0 {
-        return Some(PlanFault::NoJunction);
-    }
-    if number == 0 {
-        return Some(PlanFault::NoNumber);
-    }
-    if cycle < SHORTEST_CYCLE || cycle > LONGEST_CYCLE {
-        return Some(PlanFault::CycleOutOfRange(cycle));
-    }
-    if offset >= cycle {
-        return Some(PlanFault::OffsetOutOfRange(offset));
-    }
-    let count = stages.len();
-    if count < FEWEST_STAGES || count > MOST_STAGES {
-        return Some(PlanFault::StageCount(count));
-    }
-    if let Some(fault) = fault_of_stages(stages) {
-        return Some(fault);
-    }
-    let seconds = total_seconds(stages);
-    if seconds != cycle as u16 {
-        return Some(PlanFault::CycleNotFilled { seconds });
-    }
-    None
-}
-
-// The first stage with a time out of range.
-fn fault_of_stages(stages: &[Stage]) -> Option<PlanFault>
-    requires { length stages.now ≤ 8 }
-    ensures { result ≡ stage_fault 1 stages.now }
-{
-    let mut number: u8 = 1;
-    for stage in stages {
-        if let Some(fault) = fault_of_stage(number, *stage) {
-            return Some(fault);
+impl PlanValues {
+    // Answers the first fault, if there is one.
+    pub(crate) fn check(&self) -> Result<(), PlanFault>
+        ensures { result ≡ answer tt (fault_in (data_of self.now)) }
+    {
+        if self.junction == 0 {
+            return Err(PlanFault::NoJunction);
         }
-        number += 1;
+        if self.number == 0 {
+            return Err(PlanFault::NoNumber);
+        }
+        if !(SHORTEST_CYCLE..=LONGEST_CYCLE).contains(&self.cycle) {
+            return Err(PlanFault::CycleOutOfRange(self.cycle));
+        }
+        if self.offset >= self.cycle {
+            return Err(PlanFault::OffsetOutOfRange(self.offset));
+        }
+        let stages = self.stages.as_slice();
+        if !(FEWEST_STAGES..=MOST_STAGES).contains(&stages.len()) {
+            return Err(PlanFault::StageCount(stages.len()));
+        }
+        check_stages(stages)?;
+        let seconds = total_seconds(stages);
+        if seconds != u16::from(self.cycle) {
+            return Err(PlanFault::CycleNotFilled { seconds });
+        }
+        Ok(())
     }
-    None
 }
 
-fn fault_of_stage(number: u8, stage: Stage) -> Option<PlanFault>
-    ensures { result ≡ times_fault number stage }
+// Answers the first stage with a time out of range, if there is one.
+fn check_stages(stages: &[Stage]) -> Result<(), PlanFault>
+    requires { length stages.now ≤ 8 }
+    ensures { result ≡ answer tt (stage_fault 1 stages.now) }
+{
+    for (i, stage) in stages.iter().enumerate() {
+        check_times(i as u8 + 1, *stage)?;
+    }
+    Ok(())
+}
+
+fn check_times(number: u8, stage: Stage) -> Result<(), PlanFault>
+    ensures { result ≡ answer tt (times_fault number stage) }
 {
     if stage.green < SHORTEST_GREEN {
-        return Some(PlanFault::GreenTooShort {
+        return Err(PlanFault::GreenTooShort {
             stage: number,
             seconds: stage.green,
         });
     }
-    if stage.intergreen < SHORTEST_INTERGREEN || stage.intergreen > LONGEST_INTERGREEN {
-        return Some(PlanFault::IntergreenOutOfRange {
+    if !(SHORTEST_INTERGREEN..=LONGEST_INTERGREEN).contains(&stage.intergreen) {
+        return Err(PlanFault::IntergreenOutOfRange {
             stage: number,
             seconds: stage.intergreen,
         });
     }
-    None
+    Ok(())
 }
 
 // How long all stages take together.
@@ -93,9 +84,5 @@ fn total_seconds(stages: &[Stage]) -> u16
     requires { length stages.now ≤ 8 }
     ensures { result ≡ total stages.now }
 {
-    let mut seconds: u16 = 0;
-    for stage in stages {
-        seconds += stage.seconds();
-    }
-    seconds
+    stages.iter().map(|stage| stage.seconds()).sum()
 }

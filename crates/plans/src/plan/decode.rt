@@ -1,10 +1,13 @@
 // A plan from the bytes of a sector.
 ghost use Rattle.std.specs.Prelude.{◌≡◌, ◌+◌, ◌*◌, drop, vec_items};
+ghost use Rattle.std.specs.Option.{ok_or};
+ghost use Rattle.plans.specs.declared.fault.PlanFault.TheVariants.{UnknownMovement};
+ghost use Rattle.plans.specs.Stages.{movement_of};
 ghost use Rattle.plans.specs.Bytes.{decoded, stages_in, stray};
 ghost use Rattle.plans.specs.Told.{plan_of, Answered};
 
 use crate::fault::PlanFault;
-use crate::plan::{Plan, VERSION};
+use crate::plan::{MARKER, Plan, VERSION};
 use crate::stage::{Movement, Stage};
 use std::alloc::Global;
 
@@ -29,7 +32,7 @@ impl Plan {
         else {
             return Err(PlanFault::Short);
         };
-        if *s != b'S' || *p != b'P' {
+        if [*s, *p] != MARKER {
             return Err(PlanFault::NotAPlan);
         }
         if *version != VERSION {
@@ -54,12 +57,7 @@ fn read_stages(heap: Global, count: u8, bytes: &[u8]) -> Result<Vec<Stage>, Plan
         let [code, green, intergreen, tail @ ..] = rest else {
             return Err(PlanFault::Short);
         };
-        let Some(movement) = Movement::from_code(*code) else {
-            return Err(PlanFault::UnknownMovement {
-                stage: i + 1,
-                code: *code,
-            });
-        };
+        let movement = read_movement(i + 1, *code)?;
         stages.push(Stage {
             movement,
             green: *green,
@@ -70,21 +68,27 @@ fn read_stages(heap: Global, count: u8, bytes: &[u8]) -> Result<Vec<Stage>, Plan
     Ok(stages)
 }
 
+// The movement that stands in a stage's first byte.
+fn read_movement(stage: u8, code: u8) -> Result<Movement, PlanFault>
+    ensures { result ≡ ok_or (movement_of code) (UnknownMovement stage code) }
+{
+    Movement::try_from(code).map_err(|unknown| PlanFault::UnknownMovement {
+        stage,
+        code: unknown.0,
+    })
+}
+
 // The position after the last stage: a header of nine bytes, and three bytes a stage.
 fn end_of(count: u8) -> usize
     ensures { result ≡ 9 + 3 * count }
 {
-    9 + 3 * count as usize
+    9 + 3 * usize::from(count)
 }
 
 // The position of the first byte from `start` on that is not 0.
 fn first_stray(bytes: &[u8], start: usize) -> Option<usize>
     ensures { result ≡ stray start (drop start bytes.now) }
 {
-    for position in start..bytes.len() {
-        if bytes[position] != 0 {
-            return Some(position);
-        }
-    }
-    None
+    let skipped = bytes.iter().skip(start).position(|byte| *byte != 0)?;
+    Some(start + skipped)
 }

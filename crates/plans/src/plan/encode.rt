@@ -6,7 +6,7 @@ ghost use Rattle.std.specs.Prelude.{◌≡◌, length, IfOk};
 ghost use Rattle.plans.specs.Bytes.{encoded, header_bytes, stage_bytes};
 ghost use Rattle.plans.specs.Told.{plan_of};
 
-use crate::plan::{Plan, VERSION};
+use crate::plan::{MARKER, Plan, VERSION};
 use crate::stage::Stage;
 use std::alloc::{AllocError, Global};
 
@@ -15,7 +15,7 @@ impl Plan {
         ensures { IfOk result (λ v. v.items ≡ encoded (plan_of self.now)) }
     {
         let mut bytes = Vec::from_slice(heap, &self.header())?;
-        for stage in self.stages.as_slice() {
+        for stage in self.values.stages.as_slice() {
             bytes.extend_from_slice(&bytes_of(*stage))?;
         }
         Ok(bytes)
@@ -24,16 +24,17 @@ impl Plan {
     fn header(&self) -> [u8; 9]
         ensures { result ≡ header_bytes (plan_of self.now) }
     {
-        let [high, low] = self.junction.to_be_bytes();
+        let [s, p] = MARKER;
+        let [high, low] = self.values.junction.to_be_bytes();
         [
-            b'S',
-            b'P',
+            s,
+            p,
             VERSION,
             high,
             low,
-            self.number,
-            self.cycle,
-            self.offset,
+            self.values.number,
+            self.values.cycle,
+            self.values.offset,
             self.count(),
         ]
     }
@@ -42,12 +43,12 @@ impl Plan {
     fn count(&self) -> u8
         ensures { result ≡ length (plan_of self.now).stages }
     {
-        self.stages.len() as u8
+        self.values.stages.len() as u8
     }
 }
 
 fn bytes_of(stage: Stage) -> [u8; 3]
     ensures { result ≡ stage_bytes stage }
 {
-    [stage.movement.code(), stage.green, stage.intergreen]
+    [stage.movement.into(), stage.green, stage.intergreen]
 }

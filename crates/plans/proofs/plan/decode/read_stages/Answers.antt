@@ -1,6 +1,7 @@
-use Rattle.std.proofs.Common.{◌≡◌, suc, ◌+◌, ◌-◌, ◌<◌, ◌≤◌, length, Ok, vec_items, sym, ap, ◌∙◌, inr, arith, ltb-false, ltb-true}
+use Rattle.std.proofs.Common.{◌≡◌, suc, ◌+◌, ◌-◌, ◌<◌, ◌≤◌, length, Ok, Err, vec_items, sym, ap, ◌∙◌, inr, arith, ltb-false, ltb-true}
 use native.Mathlib.Nat.{sub-zero}
 use Rattle.std.proofs.lemmas.List.{append-nil}
+use Rattle.std.proofs.lemmas.Result.{err_from_is_err_and}
 use Rattle.plans.specs.Bytes.{stages_in}
 use Rattle.plans.proofs.Scans.{onto, onto_nil, stages_short, stages_unknown, stages_more}
 use Rattle.plans.proofs.plan.decode.read_stages.Goals as goal
@@ -19,22 +20,24 @@ returns-in_default c =
     (sym (ap (onto (vec_items c.loop-i.stages)) (stages_short _ _ (c.loop-i.i + 1) c.loop-i.rest.now e few))
     ∙ c.loop-i.invariant)
 
-pub returns-in_default-from_code : goal.returns-in_default-from_code
-returns-in_default-from_code c =
+pub returns-in_err-movement : goal.returns-in_err-movement
+returns-in_err-movement c =
     let enough : 3 ≤ length c.loop-i.rest.now = omega (arith, ltb-false) in
     let e : c.args.count - c.loop-i.i ≡ suc (c.args.count - (c.loop-i.i + 1)) = omega arith in
-    inr
+    let p = err_from_is_err_and c.from_residual.result c.from_residual.ensures.1 in
+    rw (p.1 ∙ ap Err p.2)
+    (inr
     (sym
     (ap (onto (vec_items c.loop-i.stages))
-    (stages_unknown _ _ (c.loop-i.i + 1) c.loop-i.rest.now _ e enough c.from_code.ensures c.in_default-from_code.is))
-    ∙ c.loop-i.invariant)
+    (stages_unknown _ _ (c.loop-i.i + 1) c.loop-i.rest.now _ _ e enough c.read_movement.ensures c.in_err-movement.was))
+    ∙ c.loop-i.invariant))
 
 pub loop-i-preserved : goal.loop-i-preserved
 loop-i-preserved c =
     let enough : 3 ≤ length c.loop-i.rest.now = omega (arith, ltb-false) in
     let e : c.args.count - c.loop-i.i ≡ suc (c.args.count - (c.loop-i.i + 1)) = omega arith in
     stages_more _ _ (c.loop-i.i + 1) c.loop-i.rest.now _ _ (vec_items c.loop-i.stages) (vec_items c.push.new.self)
-    e enough c.from_code.ensures c.in-Some.is c.in_ok-push.ensures.items
+    e enough c.read_movement.ensures c.in_ok-movement.was c.in_ok-push.ensures.items
     ∙ c.loop-i.invariant
 
 pub returns : goal.returns
