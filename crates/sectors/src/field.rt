@@ -22,7 +22,9 @@ fn right_check<S: DriveString, R: CheckRule>(
 {
     let mut register = scheme.start_register();
     for i in 0..length {
-        register = scheme.rule.feed(register, string.byte(place, Part::Data, i));
+        register = scheme
+            .rule
+            .feed(register, string.byte(place, Part::Data, i));
     }
     register
 }

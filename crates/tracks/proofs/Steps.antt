@@ -4,14 +4,15 @@ use lib.Seq.{set-get_or}
 use Rattle.std.proofs.lemmas.List.{set_past, same_lists, places}
 use Rattle.std.proofs.lemmas.Bool.{cases_lt}
 use Rattle.std.proofs.lemmas.Bool.Decides.{nat_tests}
-use Rattle.check_bytes.specs.Checks.{check_of, check_bytes}
+use Rattle.check_bytes.specs.Checks.{check_bytes}
+use Rattle.check_bytes.specs.Schemes.{Divider, check_by}
 use Rattle.drives.specs.declared.parts.Part.{Part}
 use Rattle.drives.specs.declared.parts.Part.TheVariants.{Id, Data}
 use Rattle.drives.specs.Drives.{Drive, drive, absent, is_byte}
 use Rattle.drives.specs.Sound.{SoundDrive}
 use Rattle.sectors.specs.Fields.{field_bytes}
 use Rattle.drives.specs.Changes.{changed, with_byte, with_mark}
-use Rattle.tracks.specs.Marks.{some_slot, lowered, track_opened}
+use Rattle.tracks.specs.Marks.{lowered, track_opened}
 use Rattle.tracks.specs.Writes.{with_bytes, with_check, with_id, with_pattern, sector_closed, sector_formatted}
 
 module _ (ds : List Drive) (u : ℕ) where
@@ -27,9 +28,6 @@ module _ (ds : List Drive) (u : ℕ) where
   pub changed_by_none : changed ds u (λ d. d) ≡ ds
   unfolding changed
   changed_by_none = set-get_or ds u absent
-
-pub some_more : (test : ℕ → Bool) (s : ℕ) → some_slot test (s + 1) ≡ (some_slot test s || test s)
-some_more test s = rw add-one refl
 
 module _ (ds : List Drive) (u : ℕ) (p : Part) (h s from : ℕ) (f : ℕ → ℕ) where
   pub bytes_none : ds ≡ changed ds u (with_bytes p h s from f 0)
@@ -73,19 +71,19 @@ past_field ds u h s i v sound l = sym (ap (set ds u) (no_such_byte (get_or ds u 
 pub four : (xs : List ℕ) → length xs ≡ 4 → xs ≡ get_or xs 0 0 ∷ get_or xs 1 0 ∷ get_or xs 2 0 ∷ get_or xs 3 0 ∷ []
 four xs l = same_lists _ _ (omega arith) (λ k d h. grind (arith, places))
 
-module _ (ds : List Drive) (u g n start h s length : ℕ) where
+module _ (ds : List Drive) (u : ℕ) (by : Divider) (h s length : ℕ) where
   -- the check that was worked out before is the right one
-  pub check_all : (check : ℕ) → check ≡ check_of g n start (field_bytes (drive ds u) h s 0 length) → (k : ℕ) → k ≡ n / 8 → changed ds u (with_bytes Data h s length (λ j. get_or (check_bytes (n / 8) check) j 0) k) ≡ changed ds u (with_check g n start h s length)
+  pub check_all : (check : ℕ) → check ≡ check_by by (field_bytes (drive ds u) h s 0 length) → (k : ℕ) → k ≡ by.degree / 8 → changed ds u (with_bytes Data h s length (λ j. get_or (check_bytes (by.degree / 8) check) j 0) k) ≡ changed ds u (with_check by h s length)
   unfolding changed drive with_check
   check_all check e k all = rw (e, all) refl
 
-  pub closed_by : changed (changed ds u (with_check g n start h s length)) u (with_mark Data h s true) ≡ changed ds u (sector_closed g n start h s length)
+  pub closed_by : changed (changed ds u (with_check by h s length)) u (with_mark Data h s true) ≡ changed ds u (sector_closed by h s length)
   unfolding sector_closed
   closed_by = changed_twice ds u _ _
 
-  pub formatted_by : (gᵢ nᵢ startᵢ value : ℕ) (numbers : List ℕ) → changed (changed (changed (changed ds u (with_id gᵢ nᵢ startᵢ h s numbers)) u (with_pattern h s length value)) u (with_mark Id h s true)) u (sector_closed g n start h s length) ≡ changed ds u (sector_formatted gᵢ nᵢ startᵢ g n start h s numbers length value)
+  pub formatted_by : (id_by : Divider) (value : ℕ) (numbers : List ℕ) → changed (changed (changed (changed ds u (with_id id_by h s numbers)) u (with_pattern h s length value)) u (with_mark Id h s true)) u (sector_closed by h s length) ≡ changed ds u (sector_formatted id_by by h s numbers length value)
   unfolding sector_formatted
-  formatted_by gᵢ nᵢ startᵢ value numbers =
-      ap (λ x. changed (changed x u (with_mark Id h s true)) u (sector_closed g n start h s length)) (changed_twice ds u _ _)
-      ∙ ap (λ x. changed x u (sector_closed g n start h s length)) (changed_twice ds u _ _)
+  formatted_by id_by value numbers =
+      ap (λ x. changed (changed x u (with_mark Id h s true)) u (sector_closed by h s length)) (changed_twice ds u _ _)
+      ∙ ap (λ x. changed x u (sector_closed by h s length)) (changed_twice ds u _ _)
       ∙ changed_twice ds u _ _
