@@ -29,6 +29,7 @@ fn id_bytes<R: CheckRule>(scheme: &CheckScheme<R>, numbers: [u8; 4]) -> [u8; 6]
 }
 
 // Writes an ID.
+#[tactic(auto, using(crate::proofs::Steps::bytes_none, crate::proofs::Steps::bytes_more), unfolding(crate::specs::Writes::with_id))]
 fn write_id<S: DriveString, R: CheckRule>(
     string: &mut S,
     scheme: &CheckScheme<R>,
@@ -45,6 +46,7 @@ fn write_id<S: DriveString, R: CheckRule>(
 }
 
 // Writes so many data bytes of one value.
+#[tactic(auto, using(crate::proofs::Steps::bytes_none, crate::proofs::Steps::bytes_more), unfolding(crate::specs::Writes::with_pattern))]
 fn write_pattern<S: DriveString>(string: &mut S, place: Place, length: u16, value: u8)
     ensures meaning { S.DriveString.meaning string.new ≡ changed (S.DriveString.meaning string.old) place.unit (with_pattern place.head.0 place.slot.0 length value) }
     ensures rest { S.DriveString.rest string.new ≡ S.DriveString.rest string.old }
@@ -55,6 +57,7 @@ fn write_pattern<S: DriveString>(string: &mut S, place: Place, length: u16, valu
 }
 
 // Writes a byte of a data field, however large its index is: no field is so long that it could pass sixteen bits.
+#[tactic(auto, using(crate::proofs::Steps::past_field))]
 fn set_field_byte<S: DriveString>(string: &mut S, place: Place, i: u32, value: u8)
     ensures meaning { S.DriveString.meaning string.new ≡ changed (S.DriveString.meaning string.old) place.unit (with_byte Data place.head.0 place.slot.0 i value) }
     ensures rest { S.DriveString.rest string.new ≡ S.DriveString.rest string.old }
@@ -65,6 +68,7 @@ fn set_field_byte<S: DriveString>(string: &mut S, place: Place, i: u32, value: u
 }
 
 // Writes the check of so many data bytes, as they stand, after them.
+#[tactic(auto, using(crate::proofs::Steps::bytes_none, crate::proofs::Steps::bytes_more, crate::proofs::Steps::check_all))]
 fn write_check<S: DriveString, R: CheckRule>(
     string: &mut S,
     scheme: &CheckScheme<R>,
@@ -82,6 +86,7 @@ fn write_check<S: DriveString, R: CheckRule>(
 }
 
 // Closes a sector: writes the check of its data bytes and raises the data mark.
+#[tactic(auto, using(crate::proofs::Steps::closed_by))]
 pub fn close_sector<S: DriveString, R: CheckRule>(
     string: &mut S,
     scheme: &CheckScheme<R>,
@@ -96,6 +101,7 @@ pub fn close_sector<S: DriveString, R: CheckRule>(
 }
 
 // Formats a sector: writes its ID, so many data bytes of one value and both checks, and raises both marks.
+#[tactic(auto, using(crate::proofs::Steps::formatted_by))]
 pub fn format_sector<S: DriveString, I: CheckRule, D: CheckRule>(
     string: &mut S,
     id_scheme: &CheckScheme<I>,
