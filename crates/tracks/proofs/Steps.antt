@@ -1,18 +1,18 @@
 -- Changes of one unit, one after another.
-use Rattle.std.proofs.Common.{◌≡◌, ℕ, ◌+◌, ◌/◌, ◌<◌, true, false, List, [], ◌∷◌, length, get_or, set, sym, refl, ap, ◌∙◌, ⊎_elim, add-one, arith, length-set, get_or-set_same, set-set}
+use Rattle.std.proofs.Common.{◌≡◌, ℕ, ◌+◌, ◌/◌, ◌<◌, false, List, length, get_or, set, sym, refl, ap, ◌∙◌, ⊎_elim, add-one, arith, length-set, get_or-set_same, set-set}
 use lib.Seq.{set-get_or}
-use Rattle.std.proofs.lemmas.List.{set_past, same_lists, places}
+use Rattle.std.proofs.lemmas.List.{set_past}
 use Rattle.std.proofs.lemmas.Bool.{cases_lt}
 use Rattle.std.proofs.lemmas.Bool.Decides.{nat_tests}
 use Rattle.check_bytes.specs.Schemes.{Divider}
 use Rattle.drives.specs.declared.parts.Part.{Part}
 use Rattle.drives.specs.declared.parts.Part.TheVariants.{Id, Data}
 use Rattle.drives.specs.Drives.{Drive, drive, absent, is_byte}
+use Rattle.drives.specs.Changes.{changed, with_byte, with_mark}
 use Rattle.drives.specs.Sound.{SoundDrive}
 use Rattle.sectors.specs.Fields.{field_bytes}
-use Rattle.drives.specs.Changes.{changed, with_byte, with_mark}
 use Rattle.tracks.specs.Marks.{lowered, track_opened}
-use Rattle.tracks.specs.Writes.{with_bytes, byte_of_check, with_check, with_id, with_pattern, sector_closed, sector_formatted}
+use Rattle.tracks.specs.Writes.{with_bytes, byte_of_check, with_check}
 
 module _ (ds : List Drive) (u : ℕ) where
   -- two changes of one unit are one
@@ -54,7 +54,7 @@ module _ (ds : List Drive) (u h : ℕ) where
   lowered_all n e = rw e refl
 
 -- a byte of a field past sixteen bits of index does not exist
-pub no_such_byte : (d : Drive) (h s i v : ℕ) → SoundDrive d → 65535 < i → with_byte Data h s i v d ≡ d
+no_such_byte : (d : Drive) (h s i v : ℕ) → SoundDrive d → 65535 < i → with_byte Data h s i v d ≡ d
 unfolding with_byte
 no_such_byte d h s i v sound l =
     let b = sound.bounds in
@@ -64,21 +64,6 @@ no_such_byte d h s i v sound l =
 pub past_field : (ds : List Drive) (u h s i v : ℕ) → SoundDrive (drive ds u) → 65535 < i → ds ≡ changed ds u (with_byte Data h s i v)
 unfolding changed drive
 past_field ds u h s i v sound l = sym (ap (set ds u) (no_such_byte (get_or ds u absent) h s i v sound l) ∙ set-get_or ds u absent)
-
-pub four : (xs : List ℕ) → length xs ≡ 4 → xs ≡ get_or xs 0 0 ∷ get_or xs 1 0 ∷ get_or xs 2 0 ∷ get_or xs 3 0 ∷ []
-four xs l = same_lists _ _ (omega arith) (λ k d h. grind (arith, places))
-
-module _ (ds : List Drive) (u : ℕ) (by : Divider) (h s length : ℕ) where
-  pub closed_by : changed (changed ds u (with_check by h s length)) u (with_mark Data h s true) ≡ changed ds u (sector_closed by h s length)
-  unfolding sector_closed
-  closed_by = changed_twice ds u _ _
-
-  pub formatted_by : (id_by : Divider) (value : ℕ) (numbers : List ℕ) → changed (changed (changed (changed ds u (with_id id_by h s numbers)) u (with_pattern h s length value)) u (with_mark Id h s true)) u (sector_closed by h s length) ≡ changed ds u (sector_formatted id_by by h s numbers length value)
-  unfolding sector_formatted
-  formatted_by id_by value numbers =
-      ap (λ x. changed (changed x u (with_mark Id h s true)) u (sector_closed by h s length)) (changed_twice ds u _ _)
-      ∙ ap (λ x. changed x u (sector_closed by h s length)) (changed_twice ds u _ _)
-      ∙ changed_twice ds u _ _
 
 -- all bytes of a check
 pub check_all : (ds : List Drive) (u g n start h s length k : ℕ) → k ≡ n / 8 → let by : Divider = record { generator = g; degree = n; start = start } in changed ds u (with_bytes Data h s length (byte_of_check by (field_bytes (drive ds u) h s 0 length)) k) ≡ changed ds u (with_check by h s length)

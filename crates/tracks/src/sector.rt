@@ -86,7 +86,7 @@ fn write_check<S: DriveString, R: CheckRule>(
 }
 
 // Closes a sector: writes the check of its data bytes and raises the data mark.
-#[tactic(auto, using(crate::proofs::Steps::closed_by))]
+#[tactic(auto, using(crate::proofs::Steps::changed_twice), unfolding(crate::specs::Writes::sector_closed))]
 pub fn close_sector<S: DriveString, R: CheckRule>(
     string: &mut S,
     scheme: &CheckScheme<R>,
@@ -101,7 +101,7 @@ pub fn close_sector<S: DriveString, R: CheckRule>(
 }
 
 // Formats a sector: writes its ID, so many data bytes of one value and both checks, and raises both marks.
-#[tactic(auto, using(crate::proofs::Steps::formatted_by))]
+#[tactic(auto, using(crate::proofs::Steps::changed_twice), unfolding(crate::specs::Writes::sector_formatted))]
 pub fn format_sector<S: DriveString, I: CheckRule, D: CheckRule>(
     string: &mut S,
     id_scheme: &CheckScheme<I>,
