@@ -26,7 +26,7 @@ pub fn is_wanted<S: DriveString, R: CheckRule>(
 }
 
 // The first slot of a track, from slot 0 on, that has the wanted sector.
-#[tactic(auto, using(crate::proofs::First::first_none, crate::proofs::First::first_here, crate::proofs::First::first_later))]
+#[tactic(auto, using(crate::proofs::First::first_steps))]
 pub fn find_sector<S: DriveString, R: CheckRule>(
     string: &S,
     scheme: &CheckScheme<R>,

@@ -38,6 +38,9 @@ module _ (ds : List Drive) (u : ℕ) (p : Part) (h s from : ℕ) (f : ℕ → �
   unfolding with_bytes
   bytes_more k at v e w = changed_twice ds u _ _ ∙ rw (e, w, add-one) refl
 
+-- what a loop over a run of bytes needs
+pub ruleset byte_steps = (bytes_none, bytes_more)
+
 module _ (ds : List Drive) (u h : ℕ) where
   pub lowered_none : changed ds u (lowered h 0) ≡ ds
   unfolding lowered
@@ -52,6 +55,9 @@ module _ (ds : List Drive) (u h : ℕ) where
   pub lowered_all : (n : ℕ) → n ≡ (drive ds u).shape.slots → changed ds u (lowered h n) ≡ changed ds u (track_opened h)
   unfolding track_opened changed drive
   lowered_all n e = rw e refl
+
+-- what a loop over the slots of a track needs
+pub ruleset slot_steps = (lowered_none, lowered_more, lowered_all)
 
 -- a byte of a field past sixteen bits of index does not exist
 no_such_byte : (d : Drive) (h s i v : ℕ) → SoundDrive d → 65535 < i → with_byte Data h s i v d ≡ d

@@ -43,7 +43,7 @@ pub fn has_wrong_id<S: DriveString, R: CheckRule>(
 }
 
 // Lowers both marks of all slots of a track.
-#[tactic(auto, using(crate::proofs::Steps::lowered_none, crate::proofs::Steps::lowered_more, crate::proofs::Steps::lowered_all))]
+#[tactic(auto, using(crate::proofs::Steps::slot_steps))]
 pub fn open_track<S: DriveString>(string: &mut S, track: Track)
     ensures meaning { S.DriveString.meaning string.new ≡ changed (S.DriveString.meaning string.old) track.unit (track_opened track.head.0) }
     ensures rest { S.DriveString.rest string.new ≡ S.DriveString.rest string.old }

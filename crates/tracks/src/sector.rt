@@ -29,7 +29,7 @@ fn id_bytes<R: CheckRule>(scheme: &CheckScheme<R>, numbers: [u8; 4]) -> [u8; 6]
 }
 
 // Writes an ID.
-#[tactic(auto, using(crate::proofs::Steps::bytes_none, crate::proofs::Steps::bytes_more), unfolding(crate::specs::Writes::with_id))]
+#[tactic(auto, using(crate::proofs::Steps::byte_steps), unfolding(crate::specs::Writes::with_id))]
 fn write_id<S: DriveString, R: CheckRule>(
     string: &mut S,
     scheme: &CheckScheme<R>,
@@ -46,7 +46,7 @@ fn write_id<S: DriveString, R: CheckRule>(
 }
 
 // Writes so many data bytes of one value.
-#[tactic(auto, using(crate::proofs::Steps::bytes_none, crate::proofs::Steps::bytes_more), unfolding(crate::specs::Writes::with_pattern))]
+#[tactic(auto, using(crate::proofs::Steps::byte_steps), unfolding(crate::specs::Writes::with_pattern))]
 fn write_pattern<S: DriveString>(string: &mut S, place: Place, length: u16, value: u8)
     ensures meaning { S.DriveString.meaning string.new ≡ changed (S.DriveString.meaning string.old) place.unit (with_pattern place.head.0 place.slot.0 length value) }
     ensures rest { S.DriveString.rest string.new ≡ S.DriveString.rest string.old }
@@ -68,7 +68,7 @@ fn set_field_byte<S: DriveString>(string: &mut S, place: Place, i: u32, value: u
 }
 
 // Writes the check of so many data bytes, as they stand, after them.
-#[tactic(auto, using(crate::proofs::Steps::bytes_none, crate::proofs::Steps::bytes_more, crate::proofs::Steps::check_all))]
+#[tactic(auto, using(crate::proofs::Steps::byte_steps, crate::proofs::Steps::check_all))]
 fn write_check<S: DriveString, R: CheckRule>(
     string: &mut S,
     scheme: &CheckScheme<R>,

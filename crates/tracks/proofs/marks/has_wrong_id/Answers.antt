@@ -1,13 +1,12 @@
 use Rattle.std.proofs.Common.{refl, rules, arith}
 use Rattle.std.proofs.lemmas.Iterator.{YieldsList-from_range}
 use Rattle.std.proofs.lemmas.Iterator.Search.{any_from_yields_List}
-use Rattle.check_bytes.specs.Schemes.{divider}
 use Rattle.drives.specs.Drives.{drive}
-use Rattle.tracks.specs.Marks.{is_wrong_id, has_wrong_id}
+use Rattle.tracks.specs.Marks.{has_wrong_id}
 use Rattle.tracks.proofs.marks.has_wrong_id.Goals as goal
 
 pub returns : goal.returns
 unfolding has_wrong_id
 returns g c =
     let d = drive (g.S.DriveString.meaning c.args.string.now) c.args.track.unit in
-    any_from_yields_List (is_wrong_id (divider g.R.CheckRule.generator g.R.CheckRule.degree c.args.scheme.now) d c.args.track.head.0) _ _ _ c.any.ensures.ran (YieldsList-from_range 0 c.geometry-slots.result.slots d.shape.slots refl (grind arith)) (λ s b q k. search rules)
+    any_from_yields_List _ _ _ _ c.any.ensures.ran (YieldsList-from_range 0 c.geometry-slots.result.slots d.shape.slots refl (grind arith)) (λ s b q k. search rules)
