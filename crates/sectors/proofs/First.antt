@@ -15,3 +15,6 @@ module _ (test : ℕ → Bool) (count s : ℕ) where
   pub first_later : s < count → test s ≡ false → first_slot test (count - s) s ≡ first_slot test (count - (s + 1)) (s + 1)
   unfolding first_slot
   first_later l t = let e : count - s ≡ suc (count - (s + 1)) = omega arith in rw e (cond-false _ _ _ t)
+
+-- what a search from slot to slot needs
+pub ruleset first_steps = (first_none, first_here, first_later)

@@ -1,45 +1,46 @@
--- Runs of field bytes, one byte more at a time.
-use Rattle.std.proofs.Common.{◌≡◌, ℕ, ◌+◌, ◌*◌, ◌^◌, ◌<◌, ◌≤◌, List, [], ◌∷◌, ◌++◌, length, sym, ap, ◌∙◌, subst, lt_of_lt_of_le, arith, pow_mono}
+-- Runs of bytes from a function of the index, one byte more at a time.
+use Rattle.std.proofs.Common.{◌≡◌, ℕ, ◌+◌, ◌*◌, ◌^◌, ◌<◌, ◌≤◌, List, [], ◌∷◌, ◌++◌, length, map, sym, ap, ◌∙◌, subst, lt_of_lt_of_le, arith, pow_mono}
+use Rattle.std.specs.List.{range_with_len}
 use Rattle.std.proofs.lemmas.List.FromFn.{map-range_with_len_more, length-map-range_with_len}
 use Rattle.std.proofs.ByRecursion.{All-push}
 use Rattle.std.proofs.lemmas.List.Sums.{fold_push}
 use Rattle.check_bytes.specs.Polynomials.{Degree}
 use Rattle.check_bytes.specs.Checks.{message, fed}
+use Rattle.check_bytes.specs.Schemes.{Divider}
 use Rattle.check_bytes.specs.Theorems.{Bytes}
 use Rattle.check_bytes.proofs.Feeding.{Holds, holds_push}
 use Rattle.check_bytes.proofs.Messages.{message_lt}
-use Rattle.drives.specs.declared.parts.Part.TheVariants.{Data}
-use Rattle.std.proofs.lemmas.Bool.Decides.{nat_tests}
-use Rattle.drives.specs.Drives.{Drive, byte_here}
-use Rattle.drives.specs.Sound.{SoundDrive}
-use Rattle.sectors.specs.Fields.{field_bytes}
 
-module _ (d : Drive) (h s : ℕ) where
-  more : (from i j : ℕ) → from + i ≡ j → field_bytes d h s from (i + 1) ≡ field_bytes d h s from i ++ (byte_here d Data h s j ∷ [])
-  more from i j e = map-range_with_len_more (byte_here d Data h s) from i j e
+-- the register holds what the bytes fed so far leave
+abbrev pub Fed : Divider → List ℕ → ℕ → Type 0
+Fed by bytes register = Holds by.generator by.degree by.start bytes register
+
+-- the number that bytes spell
+pub record Spelt (bytes : List ℕ) (number : ℕ) : Type 0 where
+  pub is : number ≡ message bytes
+  pub each : Bytes bytes
+
+module _ (f : ℕ → ℕ) where
+  abbrev run : ℕ → ℕ → List ℕ
+  run from count = map f (range_with_len from count)
 
   -- the register takes the next byte
-  pub feeds : (g n start i register byte next : ℕ) → Degree g n → byte < 256 → byte ≡ byte_here d Data h s i → next ≡ fed g n register byte → Holds g n start (field_bytes d h s 0 i) register → Holds g n start (field_bytes d h s 0 (i + 1)) next
-  feeds g n start i register byte next deg low e f holds =
-      subst (Holds g n start (field_bytes d h s 0 (i + 1))) (sym f)
-      (subst (λ (xs : List ℕ). Holds g n start xs (fed g n register byte)) (ap (λ b. field_bytes d h s 0 i ++ (b ∷ [])) e ∙ sym (more 0 i i (omega arith)))
-      (holds_push g n start (field_bytes d h s 0 i) register byte deg low holds))
+  pub feeds : (by : Divider) (i register : ℕ) {byte next : ℕ} → Degree by.generator by.degree → byte < 256 → byte ≡ f i → next ≡ fed by.generator by.degree register byte → Fed by (run 0 i) register → Fed by (run 0 (i + 1)) next
+  feeds by i register {byte = byte} deg low e taken held =
+      let more = ap (λ b. run 0 i ++ (b ∷ [])) e ∙ sym (map-range_with_len_more f 0 i i (omega arith)) in
+      rw taken (subst (λ (xs : List ℕ). Fed by xs (fed by.generator by.degree register byte)) more (holds_push by.generator by.degree by.start (run 0 i) register byte deg low held))
 
   -- a number takes the next byte
-  pub spells : (from i j found byte : ℕ) → from + i ≡ j → byte < 256 → byte ≡ byte_here d Data h s j → (found ≡ message (field_bytes d h s from i)) × Bytes (field_bytes d h s from i) → (found * 256 + byte ≡ message (field_bytes d h s from (i + 1))) × Bytes (field_bytes d h s from (i + 1))
-  spells from i j found byte at low e (is, bytes) = (
-    ap (λ x. x * 256 + byte) is ∙ sym (fold_push (λ m byte. m * 2 ^ 8 + byte) 0 (field_bytes d h s from i) byte) ∙ ap (λ b. message (field_bytes d h s from i ++ (b ∷ []))) e ∙ ap message (sym (more from i j at)),
-    subst Bytes (ap (λ b. field_bytes d h s from i ++ (b ∷ [])) e ∙ sym (more from i j at)) (All-push (λ byte. byte < 2 ^ 8) (field_bytes d h s from i) byte bytes low),
-  )
+  pub spells : (from i j : ℕ) {found byte : ℕ} → from + i ≡ j → byte < 256 → byte ≡ f j → Spelt (run from i) found → Spelt (run from (i + 1)) (found * 256 + byte)
+  spells from i j {found = found} {byte = byte} at low e spelt =
+      let more = ap (λ b. run from i ++ (b ∷ [])) e ∙ sym (map-range_with_len_more f from i j at) in
+      subst (λ (xs : List ℕ). Spelt xs (found * 256 + byte)) more record {
+        is = ap (λ x. x * 256 + byte) spelt.is ∙ sym (fold_push (λ m byte. m * 2 ^ 8 + byte) 0 (run from i) byte);
+        each = All-push (λ byte. byte < 2 ^ 8) (run from i) byte spelt.each low;
+      }
 
-  -- three bytes are below 2 ^ 24
-  pub few : (from i : ℕ) → i ≤ 3 → Bytes (field_bytes d h s from i) → message (field_bytes d h s from i) < 2 ^ 24
-  few from i l bytes =
-      let len : length (field_bytes d h s from i) ≡ i = length-map-range_with_len (byte_here d Data h s) from i in
-      lt_of_lt_of_le (message_lt (field_bytes d h s from i) bytes) (pow_mono {i = 8 * length (field_bytes d h s from i)} {j = 24} (omega arith))
-
--- no unit's field is so long
-pub past : (d : Drive) (h s i : ℕ) → SoundDrive d → 65535 < i → 0 ≡ byte_here d Data h s i
-past d h s i sound l =
-    let b = sound.bounds in
-    sym (sound.no_byte Data d.cylinder h s i (grind (arith, nat_tests)))
+  -- three bytes leave room for one more
+  pub few : (from i found : ℕ) → i ≤ 3 → Spelt (run from i) found → found < 2 ^ 24
+  few from i found l spelt =
+      let len : length (run from i) ≡ i = length-map-range_with_len f from i in
+      rw spelt.is (lt_of_lt_of_le (message_lt (run from i) spelt.each) (pow_mono {i = 8 * length (run from i)} {j = 24} (omega arith)))

@@ -1,6 +1,6 @@
 -- The ID field of a place on the standing cylinder: LCNH, LCNL, LHN, LSN and a check of two bytes, high bytes first.
 use Rattle.std.specs.Prelude.{ℕ, ◌+◌, ◌*◌, List, [], ◌∷◌}
-use Rattle.check_bytes.specs.Checks.{check_of}
+use Rattle.check_bytes.specs.Schemes.{Divider, check_by}
 use Rattle.drives.specs.declared.parts.Part.TheVariants.{Id}
 use Rattle.drives.specs.Drives.{Drive, byte_here}
 use Rattle.sectors.specs.declared.address.Address.{Address}
@@ -19,7 +19,7 @@ address_at d h s =
 abbrev pub id_bytes : Drive → ℕ → ℕ → List ℕ
 id_bytes d h s = byte_here d Id h s 0 ∷ byte_here d Id h s 1 ∷ byte_here d Id h s 2 ∷ byte_here d Id h s 3 ∷ []
 
--- its check as it stands, and the right one by the generator g, of degree n, from `start`
-abbrev pub id_checks : ℕ → ℕ → ℕ → Drive → ℕ → ℕ → CheckPair
-id_checks g n start d h s =
-    record { found = byte_here d Id h s 4 * 256 + byte_here d Id h s 5; right = check_of g n start (id_bytes d h s) }
+-- its check as it stands, and the right one
+abbrev pub id_checks : Divider → Drive → ℕ → ℕ → CheckPair
+id_checks by d h s =
+    record { found = byte_here d Id h s 4 * 256 + byte_here d Id h s 5; right = check_by by (id_bytes d h s) }

@@ -1,5 +1,6 @@
 -- The search for a sector on a track of the standing cylinder.
 use Rattle.std.specs.Prelude.{ℕ, zero, suc, ◌+◌, Bool, cond, ◌&&◌, Some, None, Option, ◌==◌}
+use Rattle.check_bytes.specs.Schemes.{Divider}
 use Rattle.drives.specs.declared.numbers.Slot.{Slot}
 use Rattle.drives.specs.declared.parts.Part.TheVariants.{Id}
 use Rattle.drives.specs.Drives.{Drive, mark_here}
@@ -16,8 +17,8 @@ abbrev pub same_address : Address → Address → Bool
 same_address a b = a.cylinder.0 == b.cylinder.0 && (a.head.0 == b.head.0 && a.sector.0 == b.sector.0)
 
 -- a slot of the track has a marked ID with a right check and the wanted numbers
-abbrev pub wanted_at : ℕ → ℕ → ℕ → Drive → Address → ℕ → ℕ → Bool
-wanted_at g n start d wanted h s = mark_here d Id h s && (is_right (id_checks g n start d h s) && same_address (address_at d h s) wanted)
+abbrev pub wanted_at : Divider → Drive → Address → ℕ → ℕ → Bool
+wanted_at by d wanted h s = mark_here d Id h s && (is_right (id_checks by d h s) && same_address (address_at d h s) wanted)
 
 -- the first of `count` slots from slot s on that passes a test
 unfoldable pub first_slot : (ℕ → Bool) → ℕ → ℕ → Option Slot

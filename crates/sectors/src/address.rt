@@ -1,7 +1,10 @@
+ghost use Rattle.std.specs.Prelude.{◌≡◌};
+ghost use Rattle.sectors.specs.Search.{is_right};
+
 use drives::numbers::{LogicalCylinder, LogicalHead, LogicalSector};
 
 // The logical numbers of a sector, as its ID holds them.
-#[derive(Clone, Copy)]
+#[derive(Clone, Copy, PartialEq, Eq)]
 pub struct Address {
     pub cylinder: LogicalCylinder,
     pub head: LogicalHead,
@@ -13,4 +16,13 @@ pub struct Address {
 pub struct CheckPair {
     pub found: u32,
     pub right: u32,
+}
+
+impl CheckPair {
+    // Whether the check stands as it should.
+    pub fn is_right(self) -> bool
+        ensures { result ≡ is_right self }
+    {
+        self.found == self.right
+    }
 }

@@ -1,39 +1,42 @@
-ghost use Rattle.std.specs.Prelude.{◌≡◌, ◌/◌, ◌≤◌};
-ghost use Rattle.check_bytes.specs.Checks.{check_of, message, start_value};
+ghost use Rattle.std.specs.Prelude.{◌≡◌, ◌≤◌};
+ghost use Rattle.check_bytes.specs.Checks.{message};
+ghost use Rattle.check_bytes.specs.Schemes.{divider, check_by};
 ghost use Rattle.drives.specs.declared.parts.Part.TheVariants.{Data};
 ghost use Rattle.drives.specs.Drives.{drive, byte_here};
 ghost use Rattle.sectors.specs.Fields.{field_bytes, field_checks};
 
 use crate::address::CheckPair;
-use check_bytes::rule::{CheckRule, Start, start_register};
+use check_bytes::rule::CheckRule;
+use check_bytes::scheme::CheckScheme;
 use drives::parts::{Part, Place};
 use drives::string::DriveString;
 
 // The right check of so many data bytes of a place.
 fn right_check<S: DriveString, R: CheckRule>(
     string: &S,
-    rule: &R,
-    start: Start,
+    scheme: &CheckScheme<R>,
     place: Place,
     length: u16,
 ) -> u32
-    ensures { result ≡ check_of (R.CheckRule.generator rule.now) (R.CheckRule.degree rule.now) (start_value start (R.CheckRule.degree rule.now)) (field_bytes (drive (S.DriveString.meaning string.now) place.unit) place.head.0 place.slot.0 0 length) }
+    ensures { result ≡ check_by (divider R.CheckRule.generator R.CheckRule.degree scheme.now) (field_bytes (drive (S.DriveString.meaning string.now) place.unit) place.head.0 place.slot.0 0 length) }
 {
-    let mut register = start_register(rule, start);
+    let mut register = scheme.start_register();
     for i in 0..length {
-        register = rule.feed(register, string.byte(place, Part::Data, i));
+        register = scheme
+            .rule
+            .feed(register, string.byte(place, Part::Data, i));
     }
     register
 }
 
-// Byte i of the data field of a place, however large i is.
+// Byte i of the data field of a place, however large i is: no field is so long that it could pass sixteen bits.
 fn field_byte<S: DriveString>(string: &S, place: Place, i: u32) -> u8
     ensures { result ≡ byte_here (drive (S.DriveString.meaning string.now) place.unit) Data place.head.0 place.slot.0 i }
 {
-    if i > 0xffff {
-        return 0;
+    match u16::try_from(i) {
+        Ok(i) => string.byte(place, Part::Data, i),
+        Err(_) => 0,
     }
-    string.byte(place, Part::Data, i as u16)
 }
 
 // The check of so many bytes that stands from byte `from` on.
@@ -43,7 +46,8 @@ fn found_check<S: DriveString>(string: &S, place: Place, from: u16, width: u8) -
 {
     let mut found = 0u32;
     for i in 0..width {
-        found = found * 256 + field_byte(string, place, from as u32 + i as u32) as u32;
+        let byte = field_byte(string, place, u32::from(from) + u32::from(i));
+        found = found * 256 + u32::from(byte);
     }
     found
 }
@@ -51,15 +55,14 @@ fn found_check<S: DriveString>(string: &S, place: Place, from: u16, width: u8) -
 // The check of the data field of a place under a data length, as it stands and as it should be.
 pub fn field_check<S: DriveString, R: CheckRule>(
     string: &S,
-    rule: &R,
-    start: Start,
+    scheme: &CheckScheme<R>,
     place: Place,
     length: u16,
 ) -> CheckPair
-    ensures { result ≡ field_checks (R.CheckRule.generator rule.now) (R.CheckRule.degree rule.now) (R.CheckRule.degree rule.now / 8) (start_value start (R.CheckRule.degree rule.now)) (drive (S.DriveString.meaning string.now) place.unit) place.head.0 place.slot.0 length }
+    ensures { result ≡ field_checks (divider R.CheckRule.generator R.CheckRule.degree scheme.now) (drive (S.DriveString.meaning string.now) place.unit) place.head.0 place.slot.0 length }
 {
     CheckPair {
-        found: found_check(string, place, length, rule.width()),
-        right: right_check(string, rule, start, place, length),
+        found: found_check(string, place, length, scheme.rule.width()),
+        right: right_check(string, scheme, place, length),
     }
 }

@@ -1,11 +1,11 @@
 ghost use Rattle.std.specs.Prelude.{◌≡◌};
-ghost use Rattle.check_bytes.specs.Checks.{start_value};
+ghost use Rattle.check_bytes.specs.Schemes.{divider};
 ghost use Rattle.drives.specs.Drives.{drive};
 ghost use Rattle.sectors.specs.Ids.{address_at, id_checks};
 
 use crate::address::{Address, CheckPair};
-use check_bytes::check::check_of;
-use check_bytes::rule::{CheckRule, Start};
+use check_bytes::rule::CheckRule;
+use check_bytes::scheme::CheckScheme;
 use drives::numbers::{LogicalCylinder, LogicalHead, LogicalSector};
 use drives::parts::{Part, Place};
 use drives::string::DriveString;
@@ -14,34 +14,25 @@ use drives::string::DriveString;
 pub fn read_address<S: DriveString>(string: &S, place: Place) -> Address
     ensures { result ≡ address_at (drive (S.DriveString.meaning string.now) place.unit) place.head.0 place.slot.0 }
 {
-    let high = string.byte(place, Part::Id, 0);
-    let low = string.byte(place, Part::Id, 1);
+    let byte = |i| string.byte(place, Part::Id, i);
     Address {
-        cylinder: LogicalCylinder(high as u16 * 256 + low as u16),
-        head: LogicalHead(string.byte(place, Part::Id, 2)),
-        sector: LogicalSector(string.byte(place, Part::Id, 3)),
+        cylinder: LogicalCylinder(u16::from_be_bytes([byte(0), byte(1)])),
+        head: LogicalHead(byte(2)),
+        sector: LogicalSector(byte(3)),
     }
 }
 
 // The check of the ID of a place, as it stands and as it should be.
 pub fn id_check<S: DriveString, R: CheckRule>(
     string: &S,
-    rule: &R,
-    start: Start,
+    scheme: &CheckScheme<R>,
     place: Place,
 ) -> CheckPair
-    ensures { result ≡ id_checks (R.CheckRule.generator rule.now) (R.CheckRule.degree rule.now) (start_value start (R.CheckRule.degree rule.now)) (drive (S.DriveString.meaning string.now) place.unit) place.head.0 place.slot.0 }
+    ensures { result ≡ id_checks (divider R.CheckRule.generator R.CheckRule.degree scheme.now) (drive (S.DriveString.meaning string.now) place.unit) place.head.0 place.slot.0 }
 {
-    let bytes = [
-        string.byte(place, Part::Id, 0),
-        string.byte(place, Part::Id, 1),
-        string.byte(place, Part::Id, 2),
-        string.byte(place, Part::Id, 3),
-    ];
-    let high = string.byte(place, Part::Id, 4);
-    let low = string.byte(place, Part::Id, 5);
+    let byte = |i| string.byte(place, Part::Id, i);
     CheckPair {
-        found: high as u32 * 256 + low as u32,
-        right: check_of(rule, start, &bytes),
+        found: u16::from_be_bytes([byte(4), byte(5)]).into(),
+        right: scheme.check_of(&[byte(0), byte(1), byte(2), byte(3)]),
     }
 }

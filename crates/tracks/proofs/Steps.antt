@@ -1,18 +1,18 @@
 -- Changes of one unit, one after another.
-use Rattle.std.proofs.Common.{◌≡◌, ℕ, ◌+◌, ◌/◌, ◌<◌, Bool, true, false, ◌||◌, List, [], ◌∷◌, length, get_or, set, sym, refl, ap, ◌∙◌, ⊎_elim, add-one, arith, length-set, get_or-set_same, set-set}
+use Rattle.std.proofs.Common.{◌≡◌, ℕ, ◌+◌, ◌/◌, ◌<◌, false, List, length, get_or, set, sym, refl, ap, ◌∙◌, ⊎_elim, add-one, arith, length-set, get_or-set_same, set-set}
 use lib.Seq.{set-get_or}
-use Rattle.std.proofs.lemmas.List.{set_past, same_lists, places}
+use Rattle.std.proofs.lemmas.List.{set_past}
 use Rattle.std.proofs.lemmas.Bool.{cases_lt}
 use Rattle.std.proofs.lemmas.Bool.Decides.{nat_tests}
-use Rattle.check_bytes.specs.Checks.{check_of, check_bytes}
+use Rattle.check_bytes.specs.Schemes.{Divider}
 use Rattle.drives.specs.declared.parts.Part.{Part}
 use Rattle.drives.specs.declared.parts.Part.TheVariants.{Id, Data}
 use Rattle.drives.specs.Drives.{Drive, drive, absent, is_byte}
+use Rattle.drives.specs.Changes.{changed, with_byte, with_mark}
 use Rattle.drives.specs.Sound.{SoundDrive}
 use Rattle.sectors.specs.Fields.{field_bytes}
-use Rattle.drives.specs.Changes.{changed, with_byte, with_mark}
-use Rattle.tracks.specs.Marks.{some_slot, lowered, track_opened}
-use Rattle.tracks.specs.Writes.{with_bytes, with_check, with_id, with_pattern, sector_closed, sector_formatted}
+use Rattle.tracks.specs.Marks.{lowered, track_opened}
+use Rattle.tracks.specs.Writes.{with_bytes, byte_of_check, with_check}
 
 module _ (ds : List Drive) (u : ℕ) where
   -- two changes of one unit are one
@@ -28,38 +28,39 @@ module _ (ds : List Drive) (u : ℕ) where
   unfolding changed
   changed_by_none = set-get_or ds u absent
 
-pub some_more : (test : ℕ → Bool) (s : ℕ) → some_slot test (s + 1) ≡ (some_slot test s || test s)
-some_more test s = rw add-one refl
-
 module _ (ds : List Drive) (u : ℕ) (p : Part) (h s from : ℕ) (f : ℕ → ℕ) where
-  pub bytes_none : ds ≡ changed ds u (with_bytes p h s from f 0)
+  pub bytes_none : changed ds u (with_bytes p h s from f 0) ≡ ds
   unfolding with_bytes
-  bytes_none = sym (changed_by_none ds u)
+  bytes_none = changed_by_none ds u
 
   -- one byte more of a run
-  pub bytes_more : (k at v : ℕ) → at ≡ from + k → v ≡ f k → (now after : List Drive) → now ≡ changed ds u (with_bytes p h s from f k) → after ≡ changed now u (with_byte p h s at v) → after ≡ changed ds u (with_bytes p h s from f (k + 1))
+  pub bytes_more : (k at v : ℕ) → at ≡ from + k → v ≡ f k → changed (changed ds u (with_bytes p h s from f k)) u (with_byte p h s at v) ≡ changed ds u (with_bytes p h s from f (k + 1))
   unfolding with_bytes
-  bytes_more k at v e w now after i j =
-      j ∙ ap (λ x. changed x u (with_byte p h s at v)) i ∙ changed_twice ds u _ _ ∙ ap (λ (q : ℕ × ℕ). changed ds u (λ d. with_byte p h s q.0 q.1 (with_bytes p h s from f k d))) (ap (λ x. (x, v)) e ∙ ap (λ x. (from + k, x)) w) ∙ rw add-one refl
+  bytes_more k at v e w = changed_twice ds u _ _ ∙ rw (e, w, add-one) refl
+
+-- what a loop over a run of bytes needs
+pub ruleset byte_steps = (bytes_none, bytes_more)
 
 module _ (ds : List Drive) (u h : ℕ) where
-  pub lowered_none : ds ≡ changed ds u (lowered h 0)
+  pub lowered_none : changed ds u (lowered h 0) ≡ ds
   unfolding lowered
-  lowered_none = sym (changed_by_none ds u)
+  lowered_none = changed_by_none ds u
 
   -- one slot more of a track
-  pub lowered_more : (s : ℕ) (now half after : List Drive) → now ≡ changed ds u (lowered h s) → half ≡ changed now u (with_mark Id h s false) → after ≡ changed half u (with_mark Data h s false) → after ≡ changed ds u (lowered h (s + 1))
+  pub lowered_more : (s : ℕ) → changed (changed (changed ds u (lowered h s)) u (with_mark Id h s false)) u (with_mark Data h s false) ≡ changed ds u (lowered h (s + 1))
   unfolding lowered
-  lowered_more s now half after i j k =
-      k ∙ ap (λ x. changed x u (with_mark Data h s false)) (j ∙ ap (λ x. changed x u (with_mark Id h s false)) i ∙ changed_twice ds u _ _) ∙ changed_twice ds u _ _ ∙ rw add-one refl
+  lowered_more s = ap (λ x. changed x u (with_mark Data h s false)) (changed_twice ds u _ _) ∙ changed_twice ds u _ _ ∙ rw add-one refl
 
   -- all slots of it
   pub lowered_all : (n : ℕ) → n ≡ (drive ds u).shape.slots → changed ds u (lowered h n) ≡ changed ds u (track_opened h)
   unfolding track_opened changed drive
-  lowered_all n e = ap (λ k. set ds u (lowered h k (get_or ds u absent))) e
+  lowered_all n e = rw e refl
+
+-- what a loop over the slots of a track needs
+pub ruleset slot_steps = (lowered_none, lowered_more, lowered_all)
 
 -- a byte of a field past sixteen bits of index does not exist
-pub no_such_byte : (d : Drive) (h s i v : ℕ) → SoundDrive d → 65535 < i → with_byte Data h s i v d ≡ d
+no_such_byte : (d : Drive) (h s i v : ℕ) → SoundDrive d → 65535 < i → with_byte Data h s i v d ≡ d
 unfolding with_byte
 no_such_byte d h s i v sound l =
     let b = sound.bounds in
@@ -70,22 +71,7 @@ pub past_field : (ds : List Drive) (u h s i v : ℕ) → SoundDrive (drive ds u)
 unfolding changed drive
 past_field ds u h s i v sound l = sym (ap (set ds u) (no_such_byte (get_or ds u absent) h s i v sound l) ∙ set-get_or ds u absent)
 
-pub four : (xs : List ℕ) → length xs ≡ 4 → xs ≡ get_or xs 0 0 ∷ get_or xs 1 0 ∷ get_or xs 2 0 ∷ get_or xs 3 0 ∷ []
-four xs l = same_lists _ _ (omega arith) (λ k d h. grind (arith, places))
-
-module _ (ds : List Drive) (u g n start h s length : ℕ) where
-  -- the check that was worked out before is the right one
-  pub check_all : (check : ℕ) → check ≡ check_of g n start (field_bytes (drive ds u) h s 0 length) → (k : ℕ) → k ≡ n / 8 → changed ds u (with_bytes Data h s length (λ j. get_or (check_bytes (n / 8) check) j 0) k) ≡ changed ds u (with_check g n start h s length)
-  unfolding changed drive with_check
-  check_all check e k all = rw (e, all) refl
-
-  pub closed_by : changed (changed ds u (with_check g n start h s length)) u (with_mark Data h s true) ≡ changed ds u (sector_closed g n start h s length)
-  unfolding sector_closed
-  closed_by = changed_twice ds u _ _
-
-  pub formatted_by : (gᵢ nᵢ startᵢ value : ℕ) (numbers : List ℕ) → changed (changed (changed (changed ds u (with_id gᵢ nᵢ startᵢ h s numbers)) u (with_pattern h s length value)) u (with_mark Id h s true)) u (sector_closed g n start h s length) ≡ changed ds u (sector_formatted gᵢ nᵢ startᵢ g n start h s numbers length value)
-  unfolding sector_formatted
-  formatted_by gᵢ nᵢ startᵢ value numbers =
-      ap (λ x. changed (changed x u (with_mark Id h s true)) u (sector_closed g n start h s length)) (changed_twice ds u _ _)
-      ∙ ap (λ x. changed x u (sector_closed g n start h s length)) (changed_twice ds u _ _)
-      ∙ changed_twice ds u _ _
+-- all bytes of a check
+pub check_all : (ds : List Drive) (u g n start h s length k : ℕ) → k ≡ n / 8 → let by : Divider = record { generator = g; degree = n; start = start } in changed ds u (with_bytes Data h s length (byte_of_check by (field_bytes (drive ds u) h s 0 length)) k) ≡ changed ds u (with_check by h s length)
+unfolding changed drive with_check
+check_all ds u g n start h s length k all = rw all refl

@@ -1,50 +1,52 @@
-ghost use Rattle.std.specs.Prelude.{◌≡◌, [], ◌∷◌};
-ghost use Rattle.check_bytes.specs.Checks.{start_value};
-ghost use Rattle.drives.specs.declared.parts.Part.TheVariants.{Id, Data};
+ghost use Rattle.std.specs.Prelude.{◌≡◌};
+ghost use Rattle.check_bytes.specs.Schemes.{divider};
+ghost use Rattle.drives.specs.declared.parts.Part.TheVariants.{Data};
 ghost use Rattle.drives.specs.Drives.{drive};
 ghost use Rattle.drives.specs.Changes.{changed, with_byte};
 ghost use Rattle.tracks.specs.Writes.{id_field, with_id, with_pattern, with_check, sector_closed, sector_formatted};
 
-use check_bytes::check::{check_byte, check_of};
-use check_bytes::rule::{CheckRule, Start};
+use check_bytes::check::check_byte;
+use check_bytes::rule::CheckRule;
+use check_bytes::scheme::CheckScheme;
 use drives::parts::{Part, Place};
 use drives::string::DriveString;
 use sectors::field::field_check;
 
 // The bytes of an ID: LCNH, LCNL, LHN, LSN and its check.
-fn id_bytes<R: CheckRule>(rule: &R, start: Start, numbers: [u8; 4]) -> [u8; 6]
-    ensures { result ≡ id_field (R.CheckRule.generator rule.now) (R.CheckRule.degree rule.now) (start_value start (R.CheckRule.degree rule.now)) numbers }
+fn id_bytes<R: CheckRule>(scheme: &CheckScheme<R>, numbers: [u8; 4]) -> [u8; 6]
+    ensures { result ≡ id_field (divider R.CheckRule.generator R.CheckRule.degree scheme.now) numbers }
 {
-    let check = check_of(rule, start, &numbers);
+    let check = scheme.check_of(&numbers);
     let [high, low, head, sector] = numbers;
     [
         high,
         low,
         head,
         sector,
-        check_byte(rule, check, 0),
-        check_byte(rule, check, 1),
+        check_byte(&scheme.rule, check, 0),
+        check_byte(&scheme.rule, check, 1),
     ]
 }
 
 // Writes an ID.
+#[tactic(auto, using(crate::proofs::Steps::byte_steps), unfolding(crate::specs::Writes::with_id))]
 fn write_id<S: DriveString, R: CheckRule>(
     string: &mut S,
-    rule: &R,
-    start: Start,
+    scheme: &CheckScheme<R>,
     place: Place,
     numbers: [u8; 4],
 )
-    ensures meaning { S.DriveString.meaning string.new ≡ changed (S.DriveString.meaning string.old) place.unit (with_id (R.CheckRule.generator rule.now) (R.CheckRule.degree rule.now) (start_value start (R.CheckRule.degree rule.now)) place.head.0 place.slot.0 numbers) }
+    ensures meaning { S.DriveString.meaning string.new ≡ changed (S.DriveString.meaning string.old) place.unit (with_id (divider R.CheckRule.generator R.CheckRule.degree scheme.now) place.head.0 place.slot.0 numbers) }
     ensures rest { S.DriveString.rest string.new ≡ S.DriveString.rest string.old }
 {
-    let bytes = id_bytes(rule, start, numbers);
-    for i in 0u8..6 {
-        string.set_byte(place, Part::Id, i as u16, bytes[i as usize]);
+    let bytes = id_bytes(scheme, numbers);
+    for (i, byte) in bytes.iter().enumerate() {
+        string.set_byte(place, Part::Id, i as u16, *byte);
     }
 }
 
 // Writes so many data bytes of one value.
+#[tactic(auto, using(crate::proofs::Steps::byte_steps), unfolding(crate::specs::Writes::with_pattern))]
 fn write_pattern<S: DriveString>(string: &mut S, place: Place, length: u16, value: u8)
     ensures meaning { S.DriveString.meaning string.new ≡ changed (S.DriveString.meaning string.old) place.unit (with_pattern place.head.0 place.slot.0 length value) }
     ensures rest { S.DriveString.rest string.new ≡ S.DriveString.rest string.old }
@@ -55,64 +57,65 @@ fn write_pattern<S: DriveString>(string: &mut S, place: Place, length: u16, valu
 }
 
 // Writes a byte of a data field, however large its index is: no field is so long that it could pass sixteen bits.
+#[tactic(auto, using(crate::proofs::Steps::past_field))]
 fn set_field_byte<S: DriveString>(string: &mut S, place: Place, i: u32, value: u8)
     ensures meaning { S.DriveString.meaning string.new ≡ changed (S.DriveString.meaning string.old) place.unit (with_byte Data place.head.0 place.slot.0 i value) }
     ensures rest { S.DriveString.rest string.new ≡ S.DriveString.rest string.old }
 {
-    if i <= 0xffff {
-        string.set_byte(place, Part::Data, i as u16, value);
+    if let Ok(i) = u16::try_from(i) {
+        string.set_byte(place, Part::Data, i, value);
     }
 }
 
 // Writes the check of so many data bytes, as they stand, after them.
+#[tactic(auto, using(crate::proofs::Steps::byte_steps, crate::proofs::Steps::check_all))]
 fn write_check<S: DriveString, R: CheckRule>(
     string: &mut S,
-    rule: &R,
-    start: Start,
+    scheme: &CheckScheme<R>,
     place: Place,
     length: u16,
 )
-    ensures meaning { S.DriveString.meaning string.new ≡ changed (S.DriveString.meaning string.old) place.unit (with_check (R.CheckRule.generator rule.now) (R.CheckRule.degree rule.now) (start_value start (R.CheckRule.degree rule.now)) place.head.0 place.slot.0 length) }
+    ensures meaning { S.DriveString.meaning string.new ≡ changed (S.DriveString.meaning string.old) place.unit (with_check (divider R.CheckRule.generator R.CheckRule.degree scheme.now) place.head.0 place.slot.0 length) }
     ensures rest { S.DriveString.rest string.new ≡ S.DriveString.rest string.old }
 {
-    let check = field_check(string, rule, start, place, length).right;
-    for i in 0..rule.width() {
-        let byte = check_byte(rule, check, i);
-        set_field_byte(string, place, length as u32 + i as u32, byte);
+    let check = field_check(string, scheme, place, length).right;
+    for i in 0..scheme.rule.width() {
+        let byte = check_byte(&scheme.rule, check, i);
+        set_field_byte(string, place, u32::from(length) + u32::from(i), byte);
     }
 }
 
 // Closes a sector: writes the check of its data bytes and raises the data mark.
+#[tactic(auto, using(crate::proofs::Steps::changed_twice), unfolding(crate::specs::Writes::sector_closed))]
 pub fn close_sector<S: DriveString, R: CheckRule>(
     string: &mut S,
-    rule: &R,
-    start: Start,
+    scheme: &CheckScheme<R>,
     place: Place,
     length: u16,
 )
-    ensures meaning { S.DriveString.meaning string.new ≡ changed (S.DriveString.meaning string.old) place.unit (sector_closed (R.CheckRule.generator rule.now) (R.CheckRule.degree rule.now) (start_value start (R.CheckRule.degree rule.now)) place.head.0 place.slot.0 length) }
+    ensures meaning { S.DriveString.meaning string.new ≡ changed (S.DriveString.meaning string.old) place.unit (sector_closed (divider R.CheckRule.generator R.CheckRule.degree scheme.now) place.head.0 place.slot.0 length) }
     ensures rest { S.DriveString.rest string.new ≡ S.DriveString.rest string.old }
 {
-    write_check(string, rule, start, place, length);
+    write_check(string, scheme, place, length);
     string.set_mark(place, Part::Data, true);
 }
 
 // Formats a sector: writes its ID, so many data bytes of one value and both checks, and raises both marks.
+#[tactic(auto, using(crate::proofs::Steps::changed_twice), unfolding(crate::specs::Writes::sector_formatted))]
 pub fn format_sector<S: DriveString, I: CheckRule, D: CheckRule>(
     string: &mut S,
-    id_rule: &I,
-    data_rule: &D,
-    start: Start,
+    id_scheme: &CheckScheme<I>,
+    data_scheme: &CheckScheme<D>,
     place: Place,
     numbers: [u8; 4],
     length: u16,
     value: u8,
 )
-    ensures meaning { S.DriveString.meaning string.new ≡ changed (S.DriveString.meaning string.old) place.unit (sector_formatted (I.CheckRule.generator id_rule.now) (I.CheckRule.degree id_rule.now) (start_value start (I.CheckRule.degree id_rule.now)) (D.CheckRule.generator data_rule.now) (D.CheckRule.degree data_rule.now) (start_value start (D.CheckRule.degree data_rule.now)) place.head.0 place.slot.0 numbers length value) }
+    ensures meaning { S.DriveString.meaning string.new ≡ changed (S.DriveString.meaning string.old) place.unit (sector_formatted (divider I.CheckRule.generator I.CheckRule.degree id_scheme.now) (divider D.CheckRule.generator D.CheckRule.degree data_scheme.now) place.head.0 place.slot.0 numbers length value) }
     ensures rest { S.DriveString.rest string.new ≡ S.DriveString.rest string.old }
 {
-    write_id(string, id_rule, start, place, numbers);
+    write_id(string, id_scheme, place, numbers);
     write_pattern(string, place, length, value);
     string.set_mark(place, Part::Id, true);
-    close_sector(string, data_rule, start, place, length);
+    close_sector(string, data_scheme, place, length);
 }

@@ -6,5 +6,5 @@ use Rattle.tracks.proofs.sector.write_id.Given as goal
 
 abbrev pub invariant-loop-i : goal.invariant-loop-i
 invariant-loop-i g l =
-    (g.S.DriveString.meaning l.string ≡ changed (g.S.DriveString.meaning l.initial.string) l.place.unit (with_bytes Id l.place.head.0 l.place.slot.0 0 (λ k. get_or l.bytes k 0) l.i))
+    (g.S.DriveString.meaning l.string ≡ changed (g.S.DriveString.meaning l.initial.string) l.place.unit (with_bytes Id l.place.head.0 l.place.slot.0 0 (λ k. get_or l.byte-items k 0) l.i))
     × (g.S.DriveString.rest l.string ≡ g.S.DriveString.rest l.initial.string)
