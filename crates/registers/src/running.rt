@@ -1,5 +1,5 @@
 ghost use Rattle.std.specs.Prelude.{◌≡◌};
-ghost use Rattle.registers.specs.Requests.{is_busy, wanted, hands_bytes, is_mid_sector};
+ghost use Rattle.registers.specs.Requests.{wanted, hands_bytes, is_mid_sector};
 
 use crate::end::End;
 use crate::kind::Kind;
@@ -59,7 +59,6 @@ pub struct Format {
 // The command that runs.
 #[derive(Clone, Copy)]
 pub enum Running {
-    Nothing,
     Seek { unit: u8, target: PhysicalCylinder },
     // after so many pulses
     Recalibrate { unit: u8, pulses: u16 },
@@ -72,23 +71,11 @@ impl Stage {
     pub fn is_mid_sector(self) -> bool
         ensures { result ≡ is_mid_sector self }
     {
-        match self {
-            Stage::Bytes { slot: _, done } => done > 0,
-            _ => false,
-        }
+        matches!(self, Stage::Bytes { done, .. } if done > 0)
     }
 }
 
 impl Running {
-    pub fn is_busy(self) -> bool
-        ensures { result ≡ is_busy self }
-    {
-        match self {
-            Running::Nothing => false,
-            _ => true,
-        }
-    }
-
     // How many bytes it still wants from the host.
     pub fn wanted(self) -> u16
         ensures { result ≡ wanted self }
@@ -104,9 +91,6 @@ impl Running {
     pub fn hands_bytes(self) -> bool
         ensures { result ≡ hands_bytes self }
     {
-        match self {
-            Running::Transfer(transfer) => transfer.kind.hands_out(),
-            _ => false,
-        }
+        matches!(self, Running::Transfer(transfer) if transfer.kind.hands_out())
     }
 }
