@@ -1,1 +1,1 @@
-pub mod Held
+mod Places
