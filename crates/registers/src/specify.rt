@@ -50,7 +50,7 @@ pub fn setting_of(parameters: Buffer) -> Option<Setting>
 {
     let mode = parameters.get(0);
     let high = parameters.get(1);
-    let length = high as u16 % 16 * 256 + parameters.get(2) as u16;
+    let length = u16::from_be_bytes([high % 16, parameters.get(2)]);
     if !is_mode(mode) || !is_length_byte(high) || length < 128 {
         return None;
     }
