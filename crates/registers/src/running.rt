@@ -1,11 +1,13 @@
 ghost use Rattle.std.specs.Prelude.{◌≡◌};
 ghost use Rattle.registers.specs.Requests.{wanted, hands_bytes, is_mid_sector};
+ghost use Rattle.registers.specs.Tracks.{transfer_track, format_track};
 
 use crate::end::End;
 use crate::kind::Kind;
 use crate::numbers::Numbers;
 use crate::setting::Setting;
 use drives::numbers::{PhysicalCylinder, PhysicalHead, Slot};
+use drives::parts::Track;
 
 // What the next turn of a transfer does.
 #[derive(Clone, Copy)]
@@ -72,6 +74,29 @@ impl Stage {
         ensures { result ≡ is_mid_sector self }
     {
         matches!(self, Stage::Bytes { done, .. } if done > 0)
+    }
+}
+
+impl Transfer {
+    // The track of the sector that is next or in work.
+    pub fn track(self) -> Track
+        ensures { result ≡ transfer_track self }
+    {
+        Track {
+            unit: self.unit,
+            head: self.numbers.head,
+        }
+    }
+}
+
+impl Format {
+    pub fn track(self) -> Track
+        ensures { result ≡ format_track self }
+    {
+        Track {
+            unit: self.unit,
+            head: self.head,
+        }
     }
 }
 
