@@ -1,6 +1,8 @@
--- A buffer's eight places after its first byte is gone. Assumes nothing.
-use Rattle.std.proofs.Common.{◌≡◌, ℕ, ◌-◌, ◌≤◌, List, [], ◌∷◌, length, get_or, take, drop, replicate, arith, length-take, length-drop}
-use Rattle.std.proofs.Math.Seq.{take-append_seam}
+-- A buffer's eight places after its changes. Assumes nothing.
+use Rattle.std.proofs.Common.{◌≡◌, ℕ, suc, ◌+◌, ◌-◌, ◌<◌, ◌≤◌, List, [], ◌∷◌, ◌++◌, length, get_or, take, drop, replicate, ap, sym, ◌∙◌, arith, length-take, length-drop, length-append, append_assoc}
+use Rattle.std.proofs.Math.ListN.{set}
+use Rattle.std.proofs.Math.Seq.{take-append_seam, set-append_seam}
+use Rattle.std.proofs.lemmas.List.{take_more_set}
 use Rattle.registers.specs.Buffers.{places, given_back}
 
 -- each byte moves up, and 0 comes last
@@ -29,3 +31,17 @@ rest_seen bytes n few p =
     let xs : List ℕ = drop 1 (take n bytes) in
     let l : length xs ≡ n - 1 = simp length-drop (rw (given_back bytes n few p)) in
     rw (rest_placed bytes n few p, ← l) (take-append_seam xs (replicate (8 - length xs) 0))
+
+first_free : (xs : List ℕ) (n m x : ℕ) → length xs ≡ n → set (xs ++ replicate (suc m) 0) n x ≡ (xs ++ (x ∷ [])) ++ replicate m 0
+first_free xs n m x l = rw (← l) (set-append_seam xs 0 (replicate m 0) x ∙ sym (append_assoc xs (x ∷ []) (replicate m 0)))
+
+-- one byte more, in the first free place
+pub more_placed : (bytes : List ℕ) (n x : ℕ) → n < 8 → length bytes ≡ 8 → bytes ≡ places (take n bytes) → set bytes n x ≡ places (take (n + 1) (set bytes n x))
+more_placed bytes n x free whole p =
+    let xs : List ℕ = take n bytes in
+    let l : length xs ≡ n = given_back bytes n (omega arith) p in
+    let e : 8 - length xs ≡ suc (7 - n) = omega arith in
+    let f : 8 - length (xs ++ (x ∷ [])) ≡ 7 - n = simp length-append (omega arith) in
+    let t : take (n + 1) (set bytes n x) ≡ xs ++ (x ∷ []) = take_more_set bytes n x (omega arith) in
+    let s : set bytes n x ≡ set (xs ++ replicate (8 - length xs) 0) n x = ap (λ (ys : List ℕ). set ys n x) p in
+    s ∙ rw (t, e, f) (first_free xs n (7 - n) x l)

@@ -17,7 +17,7 @@ impl Kind {
         self == Kind::Read
     }
 
-    // Whether it wants data bytes from the host.
+    // Whether it wants data bytes from the host: only a transfer that writes does.
     pub fn takes_bytes(self) -> bool
         ensures { result ≡ takes_bytes self }
     {
