@@ -1,2 +1,1 @@
-pub mod Held
-mod Decisions
+mod Places

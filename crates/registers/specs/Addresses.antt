@@ -5,7 +5,7 @@ use Rattle.registers.specs.declared.setting.Setting.{Setting}
 
 -- SCNT falls by 1
 abbrev pub counted : Numbers → Numbers
-counted n = record { head = n.head; address = n.address; count = n.count - 1 }
+counted n = record n { count = n.count - 1 }
 
 -- LSN is ESN and LHN is ETN
 abbrev pub is_last : Setting → Numbers → Bool
@@ -20,20 +20,14 @@ next_byte n = (n + 1) % 256
 abbrev pub advanced : Setting → Numbers → Numbers
 advanced setting n =
     cond (not (n.address.sector.0 == setting.last_sector.0))
-    (record {
-      head = n.head;
-      address = record { cylinder = n.address.cylinder; head = n.address.head; sector = record { 0 = next_byte n.address.sector.0 } };
-      count = n.count;
-    })
+    (record n { address = record { cylinder = n.address.cylinder; head = n.address.head; sector = record { 0 = next_byte n.address.sector.0 } } })
     (cond (not (n.address.head.0 == setting.last_head.0))
-    (record {
+    (record n {
       head = record { 0 = next_byte n.head.0 };
       address = record { cylinder = n.address.cylinder; head = record { 0 = next_byte n.address.head.0 }; sector = record { 0 = 0 } };
-      count = n.count;
     })
-    (record {
+    (record n {
       head = record { 0 = 0 };
       address =
           record { cylinder = record { 0 = (n.address.cylinder.0 + 1) % 65536 }; head = record { 0 = 0 }; sector = record { 0 = 0 } };
-      count = n.count;
     }))

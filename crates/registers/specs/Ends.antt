@@ -21,41 +21,17 @@ error_byte NoIds = 0x00
 -- a normal end sets CEH, any other CEL
 abbrev pub is_normal : End → Bool
 is_normal Normal = true
-is_normal EndOfCylinder = false
-is_normal Overrun = false
-is_normal DataError = false
-is_normal EquipmentCheck = false
-is_normal NotReady = false
-is_normal (NoData wrong_id) = false
-is_normal NotWritable = false
-is_normal MissingMark = false
-is_normal NoIds = false
+is_normal _ = false
 
 -- RRQ comes where the track has no ID mark
 abbrev pub requests_reset : End → Bool
-requests_reset Normal = false
-requests_reset EndOfCylinder = false
-requests_reset Overrun = false
-requests_reset DataError = false
-requests_reset EquipmentCheck = false
-requests_reset NotReady = false
-requests_reset (NoData wrong_id) = false
-requests_reset NotWritable = false
-requests_reset MissingMark = false
 requests_reset NoIds = true
+requests_reset _ = false
 
 -- IER comes with ND, where some marked ID of the track has a wrong check
 abbrev pub shows_id_error : End → Bool
-shows_id_error Normal = false
-shows_id_error EndOfCylinder = false
-shows_id_error Overrun = false
-shows_id_error DataError = false
-shows_id_error EquipmentCheck = false
-shows_id_error NotReady = false
 shows_id_error (NoData wrong_id) = wrong_id
-shows_id_error NotWritable = false
-shows_id_error MissingMark = false
-shows_id_error NoIds = false
+shows_id_error _ = false
 
 -- the interrupt status byte IST, bit 7 to 3: SEN, RC, SER, EQC, NR; then the unit
 abbrev pub seek_byte : SeekEnd → ℕ → ℕ
@@ -65,5 +41,4 @@ seek_byte seek.EquipmentCheck unit = 0x30 + unit % 8
 
 abbrev pub seek_normal : SeekEnd → Bool
 seek_normal seek.Reached = true
-seek_normal seek.NotReady = false
-seek_normal seek.EquipmentCheck = false
+seek_normal _ = false

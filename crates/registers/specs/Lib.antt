@@ -8,3 +8,4 @@ pub mod Ends
 pub mod Refusals
 pub mod Records
 pub mod Requests
+pub mod Tracks

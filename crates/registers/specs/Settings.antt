@@ -4,6 +4,7 @@ use Rattle.check_bytes.specs.declared.kind.CheckKind.{CheckKind}
 use Rattle.check_bytes.specs.declared.kind.CheckKind.TheVariants.{Crc, Lrc}
 use Rattle.check_bytes.specs.declared.rule.Start.{Start}
 use Rattle.check_bytes.specs.declared.rule.Start.TheVariants.{Zeros, Ones}
+use Rattle.check_bytes.specs.declared.scheme.CheckScheme.{CheckScheme}
 use Rattle.registers.specs.declared.setting.Setting.{Setting}
 use Rattle.registers.specs.Bits.{bit}
 
@@ -42,3 +43,11 @@ setting_from mode high low last_head last_sector =
 
 abbrev pub specified : List ℕ → Option Setting
 specified p = setting_from (slice_index p 0) (slice_index p 1) (slice_index p 2) (slice_index p 3) (slice_index p 4)
+
+-- the check of an ID is by its rule, from the register's start
+abbrev pub id_scheme : Setting → CheckScheme CheckKind
+id_scheme setting = record { rule = setting.id_rule; start = setting.start }
+
+-- that of a data field by its own rule, from the same start
+abbrev pub data_scheme : Setting → CheckScheme CheckKind
+data_scheme setting = record { rule = setting.data_rule; start = setting.start }

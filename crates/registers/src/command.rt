@@ -1,8 +1,10 @@
-ghost use Rattle.std.specs.Prelude.{◌≡◌, ◌&&◌, ◌==◌};
+ghost use Rattle.std.specs.Prelude.{◌≡◌};
 ghost use Rattle.registers.specs.Commands.{decided};
 
 use crate::bits::is_set;
 use crate::kind::Kind;
+use crate::refusal::Refusal;
+use crate::setting::Setting;
 
 // What an auxiliary command asks for. Its bit HSRQ has no effect.
 #[derive(Clone, Copy)]
@@ -12,56 +14,48 @@ pub struct Auxiliary {
     pub reset: bool,
 }
 
-// What a command byte asks for, as far as the byte, the number of parameters, the busy bit and an earlier Specify say.
+// What a command byte asks for, as far as the byte, the number of parameters and an earlier Specify say. A transfer runs
+// under that Specify's setting.
 #[derive(Clone, Copy)]
 pub enum Command {
     Auxiliary(Auxiliary),
-    // a disk command while another one runs
-    Busy,
     Specify,
     SenseUnitStatus(u8),
     Recalibrate(u8),
     Seek(u8),
-    Format(u8),
-    Transfer(Kind, u8),
+    Format(u8, Setting),
+    Transfer(Kind, u8, Setting),
     Invalid,
 }
 
-// Whether the parameters of Specify are there, and the unit is 0.
-fn is_specify(count: u8, unit: u8) -> bool
-    ensures { result ≡ (count == 8 && unit == 0) }
-{
-    count == 8 && unit == 0
-}
-
-// Whether the parameters of a command that wants an earlier Specify are there.
-fn is_ready(count: u8, parameters: u8, specified: bool) -> bool
-    ensures { result ≡ (count == parameters && specified) }
-{
-    count == parameters && specified
-}
-
 // The command byte has five code bits and, lowest, three unit bits. The lowest code bit is ignored, so that each command
-// has sixteen bytes.
-pub fn decide(byte: u8, count: u8, busy: bool, specified: bool) -> Command
-    ensures { result ≡ decided byte count busy specified }
+// has sixteen bytes. A disk command is refused while another one runs.
+#[tactic(auto, unfolding(crate::specs::Commands::decided))]
+pub fn decide(byte: u8, count: u8, busy: bool, setting: Option<Setting>) -> Result<Command, Refusal>
+    ensures { result ≡ decided byte count busy setting }
 {
     let unit = byte % 8;
-    match byte {
+    Ok(match byte {
         0x00..=0x0f => Command::Auxiliary(Auxiliary {
             clear_end: is_set(byte, 3),
             clear_buffer: is_set(byte, 1),
             reset: is_set(byte, 0),
         }),
-        _ if busy => Command::Busy,
-        0x20..=0x2f if is_specify(count, unit) => Command::Specify,
+        _ if busy => return Err(Refusal::Busy),
+        0x20..=0x2f if count == 8 && unit == 0 => Command::Specify,
         0x30..=0x3f if count == 0 => Command::SenseUnitStatus(unit),
         0x50..=0x5f if count == 0 => Command::Recalibrate(unit),
         0x60..=0x6f if count == 2 => Command::Seek(unit),
-        0x70..=0x7f if is_ready(count, 5, specified) => Command::Format(unit),
-        0xb0..=0xbf if is_ready(count, 6, specified) => Command::Transfer(Kind::Read, unit),
-        0xc0..=0xcf if is_ready(count, 6, specified) => Command::Transfer(Kind::Check, unit),
-        0xf0..=0xff if is_ready(count, 6, specified) => Command::Transfer(Kind::Write, unit),
+        0x70..=0x7f if count == 5 && let Some(setting) = setting => Command::Format(unit, setting),
+        0xb0..=0xbf if count == 6 && let Some(setting) = setting => {
+            Command::Transfer(Kind::Read, unit, setting)
+        }
+        0xc0..=0xcf if count == 6 && let Some(setting) = setting => {
+            Command::Transfer(Kind::Check, unit, setting)
+        }
+        0xf0..=0xff if count == 6 && let Some(setting) = setting => {
+            Command::Transfer(Kind::Write, unit, setting)
+        }
         _ => Command::Invalid,
-    }
+    })
 }

@@ -2,7 +2,7 @@ ghost use Rattle.std.specs.Prelude.{◌≡◌};
 ghost use Rattle.registers.specs.Ends.{error_byte, is_normal, requests_reset, shows_id_error, seek_byte, seek_normal};
 
 // How a transfer ends.
-#[derive(Clone, Copy)]
+#[derive(Clone, Copy, PartialEq, Eq)]
 pub enum End {
     Normal,
     EndOfCylinder,
@@ -39,35 +39,26 @@ impl End {
     pub fn is_normal(self) -> bool
         ensures { result ≡ is_normal self }
     {
-        match self {
-            End::Normal => true,
-            _ => false,
-        }
+        self == End::Normal
     }
 
     // Whether it sets RRQ, reset request.
     pub fn requests_reset(self) -> bool
         ensures { result ≡ requests_reset self }
     {
-        match self {
-            End::NoIds => true,
-            _ => false,
-        }
+        self == End::NoIds
     }
 
     // Whether it sets IER, ID error.
     pub fn shows_id_error(self) -> bool
         ensures { result ≡ shows_id_error self }
     {
-        match self {
-            End::NoData { wrong_id } => wrong_id,
-            _ => false,
-        }
+        self == End::NoData { wrong_id: true }
     }
 }
 
 // How a Seek or a Recalibrate ends.
-#[derive(Clone, Copy)]
+#[derive(Clone, Copy, PartialEq, Eq)]
 pub enum SeekEnd {
     Reached,
     NotReady,
@@ -90,9 +81,6 @@ impl SeekEnd {
     pub fn is_normal(self) -> bool
         ensures { result ≡ seek_normal self }
     {
-        match self {
-            SeekEnd::Reached => true,
-            SeekEnd::NotReady | SeekEnd::EquipmentCheck => false,
-        }
+        self == SeekEnd::Reached
     }
 }

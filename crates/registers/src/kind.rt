@@ -2,7 +2,7 @@ ghost use Rattle.std.specs.Prelude.{◌≡◌};
 ghost use Rattle.registers.specs.Kinds.{hands_out, takes_bytes, writes};
 
 // The transfers that search for sectors by their IDs.
-#[derive(Clone, Copy)]
+#[derive(Clone, Copy, PartialEq, Eq)]
 pub enum Kind {
     Read,
     Check,
@@ -14,29 +14,20 @@ impl Kind {
     pub fn hands_out(self) -> bool
         ensures { result ≡ hands_out self }
     {
-        match self {
-            Kind::Read => true,
-            Kind::Check | Kind::Write => false,
-        }
+        self == Kind::Read
     }
 
-    // Whether it wants data bytes from the host.
+    // Whether it wants data bytes from the host: only a transfer that writes does.
     pub fn takes_bytes(self) -> bool
         ensures { result ≡ takes_bytes self }
     {
-        match self {
-            Kind::Check | Kind::Read => false,
-            Kind::Write => true,
-        }
+        self.writes()
     }
 
     // Whether it writes sectors, and so opens and closes them. The others need a data mark.
     pub fn writes(self) -> bool
         ensures { result ≡ writes self }
     {
-        match self {
-            Kind::Read | Kind::Check => false,
-            Kind::Write => true,
-        }
+        self == Kind::Write
     }
 }

@@ -20,9 +20,8 @@ impl Numbers {
         ensures { result ≡ counted self }
     {
         Numbers {
-            head: self.head,
-            address: self.address,
             count: self.count.saturating_sub(1),
+            ..self
         }
     }
 
@@ -30,7 +29,7 @@ impl Numbers {
     pub fn is_last(self, setting: Setting) -> bool
         ensures { result ≡ is_last setting self }
     {
-        self.address.sector.0 == setting.last_sector.0 && self.address.head.0 == setting.last_head.0
+        self.address.sector == setting.last_sector && self.address.head == setting.last_head
     }
 
     // The numbers of the next sector.
@@ -42,45 +41,38 @@ impl Numbers {
             head,
             sector,
         } = self.address;
-        if sector.0 != setting.last_sector.0 {
-            return self.at(
-                self.head,
-                cylinder,
-                head,
-                LogicalSector(sector.0.wrapping_add(1)),
-            );
+        if sector != setting.last_sector {
+            let sector = LogicalSector(sector.0.wrapping_add(1));
+            let address = Address {
+                sector,
+                ..self.address
+            };
+            return Numbers { address, ..self };
         }
-        if head.0 != setting.last_head.0 {
-            let below = PhysicalHead(self.head.0.wrapping_add(1));
-            return self.at(
-                below,
-                cylinder,
-                LogicalHead(head.0.wrapping_add(1)),
-                LogicalSector(0),
-            );
-        }
-        let inward = LogicalCylinder(cylinder.0.wrapping_add(1));
-        self.at(PhysicalHead(0), inward, LogicalHead(0), LogicalSector(0))
-    }
-
-    // The same count at another sector.
-    fn at(
-        self,
-        physical: PhysicalHead,
-        cylinder: LogicalCylinder,
-        head: LogicalHead,
-        sector: LogicalSector,
-    ) -> Numbers
-        ensures { result ≡ record { head = physical; address = record { cylinder = cylinder; head = head; sector = sector }; count = self.count } }
-    {
-        Numbers {
-            head: physical,
-            address: Address {
+        let sector = LogicalSector(0);
+        if head != setting.last_head {
+            let physical = PhysicalHead(self.head.0.wrapping_add(1));
+            let head = LogicalHead(head.0.wrapping_add(1));
+            let address = Address {
                 cylinder,
                 head,
                 sector,
-            },
-            count: self.count,
+            };
+            return Numbers {
+                head: physical,
+                address,
+                ..self
+            };
+        }
+        let address = Address {
+            cylinder: LogicalCylinder(cylinder.0.wrapping_add(1)),
+            head: LogicalHead(0),
+            sector,
+        };
+        Numbers {
+            head: PhysicalHead(0),
+            address,
+            ..self
         }
     }
 }

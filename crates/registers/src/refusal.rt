@@ -1,37 +1,29 @@
 ghost use Rattle.std.specs.Prelude.{◌≡◌};
 ghost use Rattle.registers.specs.Refusals.{refusal_number};
 
-// Why the port declines a call. A declined call alters nothing.
-#[derive(Clone, Copy)]
+// Why the port declines a call, by its number. A declined call alters nothing.
+#[derive(Clone, Copy, Debug, PartialEq, Eq)]
 pub enum Refusal {
     // a running command wants no byte
-    NotWanted,
+    NotWanted = 5,
     // the buffer, or a prepared ticket, holds eight bytes
-    Full,
+    Full = 6,
     // no byte is there for the host
-    NothingToRead,
+    NothingToRead = 7,
     // a disk command is written, or a ticket issued, while one runs
-    Busy,
+    Busy = 8,
     // terminal count while neither Read Data nor Write Data runs
-    NoTransfer,
+    NoTransfer = 9,
     // a line is set on a missing unit
-    MissingUnit,
+    MissingUnit = 10,
     // a ticket is collected while a command runs
-    NotEnded,
+    NotEnded = 11,
 }
 
 impl Refusal {
     pub fn number(self) -> u8
         ensures { result ≡ refusal_number self }
     {
-        match self {
-            Refusal::NotWanted => 5,
-            Refusal::Full => 6,
-            Refusal::NothingToRead => 7,
-            Refusal::Busy => 8,
-            Refusal::NoTransfer => 9,
-            Refusal::MissingUnit => 10,
-            Refusal::NotEnded => 11,
-        }
+        self as u8
     }
 }

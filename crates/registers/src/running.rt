@@ -1,11 +1,13 @@
 ghost use Rattle.std.specs.Prelude.{◌≡◌};
-ghost use Rattle.registers.specs.Requests.{is_busy, wanted, hands_bytes, is_mid_sector};
+ghost use Rattle.registers.specs.Requests.{wanted, hands_bytes, is_mid_sector};
+ghost use Rattle.registers.specs.Tracks.{transfer_track, format_track};
 
 use crate::end::End;
 use crate::kind::Kind;
 use crate::numbers::Numbers;
 use crate::setting::Setting;
 use drives::numbers::{PhysicalCylinder, PhysicalHead, Slot};
+use drives::parts::Track;
 
 // What the next turn of a transfer does.
 #[derive(Clone, Copy)]
@@ -59,7 +61,6 @@ pub struct Format {
 // The command that runs.
 #[derive(Clone, Copy)]
 pub enum Running {
-    Nothing,
     Seek { unit: u8, target: PhysicalCylinder },
     // after so many pulses
     Recalibrate { unit: u8, pulses: u16 },
@@ -72,23 +73,34 @@ impl Stage {
     pub fn is_mid_sector(self) -> bool
         ensures { result ≡ is_mid_sector self }
     {
-        match self {
-            Stage::Bytes { slot: _, done } => done > 0,
-            _ => false,
+        matches!(self, Stage::Bytes { done, .. } if done > 0)
+    }
+}
+
+impl Transfer {
+    // The track of the sector that is next or in work.
+    pub fn track(self) -> Track
+        ensures { result ≡ transfer_track self }
+    {
+        Track {
+            unit: self.unit,
+            head: self.numbers.head,
+        }
+    }
+}
+
+impl Format {
+    pub fn track(self) -> Track
+        ensures { result ≡ format_track self }
+    {
+        Track {
+            unit: self.unit,
+            head: self.head,
         }
     }
 }
 
 impl Running {
-    pub fn is_busy(self) -> bool
-        ensures { result ≡ is_busy self }
-    {
-        match self {
-            Running::Nothing => false,
-            _ => true,
-        }
-    }
-
     // How many bytes it still wants from the host.
     pub fn wanted(self) -> u16
         ensures { result ≡ wanted self }
@@ -104,9 +116,6 @@ impl Running {
     pub fn hands_bytes(self) -> bool
         ensures { result ≡ hands_bytes self }
     {
-        match self {
-            Running::Transfer(transfer) => transfer.kind.hands_out(),
-            _ => false,
-        }
+        matches!(self, Running::Transfer(transfer) if transfer.kind.hands_out())
     }
 }

@@ -1,5 +1,4 @@
 ghost use Rattle.std.specs.Prelude.{◌≡◌};
-ghost use Rattle.registers.specs.Buffers.{held};
 ghost use Rattle.registers.specs.Settings.{mode_legal, length_byte_legal, rule_chosen, start_chosen, specified};
 
 use crate::bits::is_set;
@@ -47,11 +46,11 @@ fn start_of(high: u8) -> Start
 
 // The setting that Specify's parameters ask for, or none where one of them is not legal.
 pub fn setting_of(parameters: Buffer) -> Option<Setting>
-    ensures { result ≡ specified (held parameters) }
+    ensures { result ≡ specified parameters }
 {
     let mode = parameters.get(0);
     let high = parameters.get(1);
-    let length = high as u16 % 16 * 256 + parameters.get(2) as u16;
+    let length = u16::from_be_bytes([high % 16, parameters.get(2)]);
     if !is_mode(mode) || !is_length_byte(high) || length < 128 {
         return None;
     }

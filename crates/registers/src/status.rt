@@ -34,14 +34,14 @@ impl Flags {
 }
 
 // DRQ, the data request, with so many bytes in the buffer.
-pub fn data_request(running: Running, count: u8) -> bool
+pub fn data_request(running: Option<Running>, count: u8) -> bool
     ensures { result ≡ data_request running count }
 {
-    if running.wanted() > 0 {
+    if running.map_or(0, Running::wanted) > 0 {
         return count < 6;
     }
     match running {
-        Running::Transfer(transfer) if transfer.kind.hands_out() => {
+        Some(Running::Transfer(transfer)) if transfer.kind.hands_out() => {
             count >= 3 || (count > 0 && !transfer.stage.is_mid_sector())
         }
         _ => false,
@@ -49,10 +49,10 @@ pub fn data_request(running: Running, count: u8) -> bool
 }
 
 // The status byte, bit 7 to 0: CB, CEH, CEL, SRQ, RRQ, IER, NCI, DRQ. SRQ and NCI are 0.
-pub fn status_byte(running: Running, flags: Flags, count: u8) -> u8
+pub fn status_byte(running: Option<Running>, flags: Flags, count: u8) -> u8
     ensures { result ≡ status_byte running flags count }
 {
-    weight_if(running.is_busy(), 0x80)
+    weight_if(running.is_some(), 0x80)
         + weight_if(flags.ended_high, 0x40)
         + weight_if(flags.ended_low, 0x20)
         + weight_if(flags.reset_request, 0x08)

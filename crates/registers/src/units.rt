@@ -29,6 +29,7 @@ fn follow(unit: &mut UnitRecord, direction: Direction)
 
 impl UnitRecords {
     // All at cylinder 0.
+    #[tactic(auto, unfolding(crate::specs::Records::all_zero))]
     pub fn new() -> UnitRecords
         ensures { result ≡ all_zero }
     {
@@ -39,33 +40,33 @@ impl UnitRecords {
     }
 
     // Where the controller believes the heads of a unit to be; 0 for a unit that has no record.
+    #[tactic(auto, unfolding(crate::specs::Records::believed))]
     pub fn believed(&self, unit: u8) -> PhysicalCylinder
         ensures { result.0 ≡ believed self.now unit }
     {
-        if unit < 4 {
-            self.of[unit as usize].cylinder
-        } else {
-            PhysicalCylinder(0)
-        }
+        self.of
+            .get(unit as usize)
+            .map_or(PhysicalCylinder(0), |record| record.cylinder)
     }
 
     // The unit's record follows a step pulse.
+    #[tactic(auto, unfolding(crate::specs::Records::moved))]
     pub fn follow_pulse(&mut self, unit: u8, direction: Direction)
         ensures { self.new ≡ moved self.old unit direction }
     {
+        // no `get_mut`: of an array it does not say what the array is afterwards
         if unit < 4 {
             follow(&mut self.of[unit as usize], direction);
         }
     }
 
     // The unit's record goes back to cylinder 0.
+    #[tactic(auto, unfolding(crate::specs::Records::recalled))]
     pub fn recall(&mut self, unit: u8)
         ensures { self.new ≡ recalled self.old unit }
     {
         if unit < 4 {
-            self.of[unit as usize] = UnitRecord {
-                cylinder: PhysicalCylinder(0),
-            };
+            self.of[unit as usize].cylinder = PhysicalCylinder(0);
         }
     }
 }

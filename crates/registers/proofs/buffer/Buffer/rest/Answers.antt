@@ -1,11 +1,15 @@
-use Rattle.std.proofs.Common.{◌≡◌, ◌≤◌, length, rules}
-use Rattle.registers.specs.Buffers.{held}
-use Rattle.registers.proofs.Held.{shifted}
+use Rattle.std.proofs.Common.{drop, ◌∙◌, ap, arith}
+use Rattle.registers.proofs.Places.{rest_placed, rest_seen}
 use Rattle.registers.proofs.buffer.Buffer.rest.Goals as goal
 
+pub invariant_of-result : goal.invariant_of-result
+invariant_of-result c =
+    let b = c.self.inside in
+    let placed = rest_placed b.bytes b.count c.self.invariant.0 c.self.invariant.1 in
+    let seen = rest_seen b.bytes b.count c.self.invariant.0 c.self.invariant.1 in
+    (omega arith, rw (c.saturating_sub.ensures, seen) placed)
+
 pub returns : goal.returns
-unfolding held
 returns c =
-    let l : length c.args.self.bytes ≡ 8 = search rules in
-    let k : c.args.self.count ≤ 8 = c.args.self.few in
-    simp c.saturating_sub.ensures (shifted c.args.self.bytes c.args.self.count l k)
+    let b = c.self.inside in
+    rw c.saturating_sub.ensures (rest_seen b.bytes b.count c.self.invariant.0 c.self.invariant.1 ∙ ap (drop 1) c.self.view_is)
