@@ -4,6 +4,7 @@ ghost use Rattle.memory.specs.declared.rack.RackMemory.TheVariants.{Image as Rac
 ghost use Rattle.images.specs.Fresh.{new, fresh_state, cartridge_state, empty_cells};
 
 use crate::trailer::{Checked, check_image};
+use memory::bytes::Memory;
 use memory::cells::Cells;
 use memory::lent::Lent;
 use memory::owned::Owned;
@@ -58,16 +59,41 @@ pub fn image_state(bytes: &[u8]) -> State
     }
 }
 
+// A new unit over an image, whatever memory holds it.
+fn image_over<M: Memory>(memory: M) -> Unit<M>
+    ensures state { result.state ≡ fresh_state (M.contents memory) }
+    ensures memory { result.memory ≡ memory }
+{
+    Unit {
+        state: image_state(memory.bytes()),
+        memory,
+    }
+}
+
+// A new unit over a cartridge's bytes.
+fn cartridge_over<M: Memory>(memory: M) -> Unit<M>
+    ensures state { result.state ≡ cartridge_state }
+    ensures memory { result.memory ≡ memory }
+{
+    let layout = Layout {
+        first: 0,
+        cylinders: 2,
+        heads: 2,
+        slots: 4,
+        length: 128,
+    };
+    Unit {
+        state: new_state(layout, true),
+        memory,
+    }
+}
+
 // A new unit over an image in memory of the caller.
 pub fn new_image(bytes: &mut [u8]) -> Image<'_>
     ensures state { result.state ≡ fresh_state bytes.old }
     ensures memory { result.memory.bytes.now ≡ bytes.old }
 {
-    let state = image_state(bytes);
-    Unit {
-        state,
-        memory: Lent { bytes },
-    }
+    image_over(Lent { bytes })
 }
 
 // Ends an image: the caller's memory comes back as it stands.
@@ -85,11 +111,7 @@ pub fn new_owned_image(bytes: Vec<u8>) -> OwnedImage
     ensures state { result.state ≡ fresh_state bytes.items }
     ensures memory { result.memory.bytes ≡ bytes }
 {
-    let state = image_state(bytes.as_slice());
-    Unit {
-        state,
-        memory: Owned { bytes },
-    }
+    image_over(Owned { bytes })
 }
 
 // A new cartridge, all its bytes 00.
@@ -97,17 +119,7 @@ pub fn new_cartridge() -> Cartridge
     ensures state { result.state ≡ cartridge_state }
     ensures memory { result.memory.bytes ≡ empty_cells }
 {
-    let layout = Layout {
-        first: 0,
-        cylinders: 2,
-        heads: 2,
-        slots: 4,
-        length: 128,
-    };
-    Unit {
-        state: new_state(layout, true),
-        memory: Cells::new(),
-    }
+    cartridge_over(Cells::new())
 }
 
 // A drive of a rack, in memory of its own: an image or a cartridge.
@@ -118,11 +130,7 @@ pub fn new_rack_image(bytes: Vec<u8>) -> RackUnit
     ensures state { result.state ≡ fresh_state bytes.items }
     ensures memory { result.memory ≡ RackImage (record { bytes = bytes }) }
 {
-    let image = new_owned_image(bytes);
-    Unit {
-        state: image.state,
-        memory: RackMemory::Image(image.memory),
-    }
+    image_over(RackMemory::Image(Owned { bytes }))
 }
 
 // A new cartridge in a rack.
@@ -130,9 +138,5 @@ pub fn new_rack_cartridge() -> RackUnit
     ensures state { result.state ≡ cartridge_state }
     ensures memory { result.memory ≡ RackCartridge (record { bytes = empty_cells }) }
 {
-    let cartridge = new_cartridge();
-    Unit {
-        state: cartridge.state,
-        memory: RackMemory::Cartridge(cartridge.memory),
-    }
+    cartridge_over(RackMemory::Cartridge(Cells::new()))
 }
