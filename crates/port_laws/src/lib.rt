@@ -3,9 +3,7 @@
 
 ghost use Rattle.port_laws.specs.OfUnits.{OtherUnitsStay, HeldUnitsStay};
 
-pub fn units_stand() -> u8
+pub fn units_stand()
     ensures others { OtherUnitsStay }
     ensures held { HeldUnitsStay }
-{
-    0
-}
+{}
