@@ -15,7 +15,7 @@ pub struct CheckScheme<R> {
 impl<R: CheckRule> CheckScheme<R> {
     // The register before the first byte.
     pub fn start_register(&self) -> u32
-        ensures { result ≡ (divider R.generator R.degree self.now).start }
+        ensures { result ≡ (divider R.CheckRule self.now).start }
     {
         match self.start {
             Start::Zeros => 0,
@@ -25,7 +25,7 @@ impl<R: CheckRule> CheckScheme<R> {
 
     // The check of the bytes, byte after byte.
     pub fn check_of(&self, bytes: &[u8]) -> u32
-        ensures { result ≡ check_by (divider R.generator R.degree self.now) bytes.now }
+        ensures { result ≡ check_by (divider R.CheckRule self.now) bytes.now }
     {
         let mut register = self.start_register();
         for byte in bytes {
@@ -37,7 +37,7 @@ impl<R: CheckRule> CheckScheme<R> {
     // The check bytes of the bytes, high byte first.
     #[tactic(auto, using(crate::proofs::Wide::shown_bytes))]
     pub fn check_bytes_of(&self, heap: Global, bytes: &[u8]) -> Result<Vec<u8>, AllocError>
-        ensures { IfOk result (λ v. v.items ≡ check_bytes (R.degree self.now.rule / 8) (check_by (divider R.generator R.degree self.now) bytes.now)) }
+        ensures { IfOk result (λ v. v.items ≡ check_bytes (R.degree self.now.rule / 8) (check_by (divider R.CheckRule self.now) bytes.now)) }
     {
         let bytes = self.check_of(bytes).to_be_bytes();
         Vec::from_slice(heap, &bytes[4 - self.rule.width() as usize..])

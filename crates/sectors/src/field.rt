@@ -18,7 +18,7 @@ fn right_check<S: DriveString, R: CheckRule>(
     place: Place,
     length: u16,
 ) -> u32
-    ensures { result ≡ check_by (divider R.CheckRule.generator R.CheckRule.degree scheme.now) (field_bytes (drive (S.DriveString.meaning string.now) place.unit) place.head.0 place.slot.0 0 length) }
+    ensures { result ≡ check_by (divider R.CheckRule scheme.now) (field_bytes (drive (S.DriveString.meaning string.now) place.unit) place.head.0 place.slot.0 0 length) }
 {
     let mut register = scheme.start_register();
     for i in 0..length {
@@ -59,7 +59,7 @@ pub fn field_check<S: DriveString, R: CheckRule>(
     place: Place,
     length: u16,
 ) -> CheckPair
-    ensures { result ≡ field_checks (divider R.CheckRule.generator R.CheckRule.degree scheme.now) (drive (S.DriveString.meaning string.now) place.unit) place.head.0 place.slot.0 length }
+    ensures { result ≡ field_checks (divider R.CheckRule scheme.now) (drive (S.DriveString.meaning string.now) place.unit) place.head.0 place.slot.0 length }
 {
     CheckPair {
         found: found_check(string, place, length, scheme.rule.width()),

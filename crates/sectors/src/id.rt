@@ -28,7 +28,7 @@ pub fn id_check<S: DriveString, R: CheckRule>(
     scheme: &CheckScheme<R>,
     place: Place,
 ) -> CheckPair
-    ensures { result ≡ id_checks (divider R.CheckRule.generator R.CheckRule.degree scheme.now) (drive (S.DriveString.meaning string.now) place.unit) place.head.0 place.slot.0 }
+    ensures { result ≡ id_checks (divider R.CheckRule scheme.now) (drive (S.DriveString.meaning string.now) place.unit) place.head.0 place.slot.0 }
 {
     let byte = |i| string.byte(place, Part::Id, i);
     CheckPair {

@@ -18,7 +18,7 @@ pub fn is_wanted<S: DriveString, R: CheckRule>(
     place: Place,
     wanted: Address,
 ) -> bool
-    ensures { result ≡ wanted_at (divider R.CheckRule.generator R.CheckRule.degree scheme.now) (drive (S.DriveString.meaning string.now) place.unit) wanted place.head.0 place.slot.0 }
+    ensures { result ≡ wanted_at (divider R.CheckRule scheme.now) (drive (S.DriveString.meaning string.now) place.unit) wanted place.head.0 place.slot.0 }
 {
     string.mark(place, Part::Id)
         && id_check(string, scheme, place).is_right()
@@ -33,7 +33,7 @@ pub fn find_sector<S: DriveString, R: CheckRule>(
     track: Track,
     wanted: Address,
 ) -> Option<Slot>
-    ensures { result ≡ first_slot (wanted_at (divider R.CheckRule.generator R.CheckRule.degree scheme.now) (drive (S.DriveString.meaning string.now) track.unit) wanted track.head.0) (drive (S.DriveString.meaning string.now) track.unit).shape.slots 0 }
+    ensures { result ≡ first_slot (wanted_at (divider R.CheckRule scheme.now) (drive (S.DriveString.meaning string.now) track.unit) wanted track.head.0) (drive (S.DriveString.meaning string.now) track.unit).shape.slots 0 }
 {
     let count = string.geometry(track.unit).slots;
     let mut slot = 0;

@@ -25,7 +25,7 @@ fn is_wrong_id<S: DriveString, R: CheckRule>(
     scheme: &CheckScheme<R>,
     place: Place,
 ) -> bool
-    ensures { result ≡ is_wrong_id (divider R.CheckRule.generator R.CheckRule.degree scheme.now) (drive (S.DriveString.meaning string.now) place.unit) place.head.0 place.slot.0 }
+    ensures { result ≡ is_wrong_id (divider R.CheckRule scheme.now) (drive (S.DriveString.meaning string.now) place.unit) place.head.0 place.slot.0 }
 {
     string.mark(place, Part::Id) && !id_check(string, scheme, place).is_right()
 }
@@ -36,7 +36,7 @@ pub fn has_wrong_id<S: DriveString, R: CheckRule>(
     scheme: &CheckScheme<R>,
     track: Track,
 ) -> bool
-    ensures { result ≡ has_wrong_id (divider R.CheckRule.generator R.CheckRule.degree scheme.now) (drive (S.DriveString.meaning string.now) track.unit) track.head.0 }
+    ensures { result ≡ has_wrong_id (divider R.CheckRule scheme.now) (drive (S.DriveString.meaning string.now) track.unit) track.head.0 }
 {
     let slots = string.geometry(track.unit).slots;
     (0..slots).any(|slot| is_wrong_id(string, scheme, track.at(Slot(slot))))

@@ -14,7 +14,7 @@ use sectors::field::field_check;
 
 // The bytes of an ID: LCNH, LCNL, LHN, LSN and its check.
 fn id_bytes<R: CheckRule>(scheme: &CheckScheme<R>, numbers: [u8; 4]) -> [u8; 6]
-    ensures { result ≡ id_field (divider R.CheckRule.generator R.CheckRule.degree scheme.now) numbers }
+    ensures { result ≡ id_field (divider R.CheckRule scheme.now) numbers }
 {
     let check = scheme.check_of(&numbers);
     let [high, low, head, sector] = numbers;
@@ -36,7 +36,7 @@ fn write_id<S: DriveString, R: CheckRule>(
     place: Place,
     numbers: [u8; 4],
 )
-    ensures meaning { S.DriveString.meaning string.new ≡ changed (S.DriveString.meaning string.old) place.unit (with_id (divider R.CheckRule.generator R.CheckRule.degree scheme.now) place.head.0 place.slot.0 numbers) }
+    ensures meaning { S.DriveString.meaning string.new ≡ changed (S.DriveString.meaning string.old) place.unit (with_id (divider R.CheckRule scheme.now) place.head.0 place.slot.0 numbers) }
     ensures rest { S.DriveString.rest string.new ≡ S.DriveString.rest string.old }
 {
     let bytes = id_bytes(scheme, numbers);
@@ -75,7 +75,7 @@ fn write_check<S: DriveString, R: CheckRule>(
     place: Place,
     length: u16,
 )
-    ensures meaning { S.DriveString.meaning string.new ≡ changed (S.DriveString.meaning string.old) place.unit (with_check (divider R.CheckRule.generator R.CheckRule.degree scheme.now) place.head.0 place.slot.0 length) }
+    ensures meaning { S.DriveString.meaning string.new ≡ changed (S.DriveString.meaning string.old) place.unit (with_check (divider R.CheckRule scheme.now) place.head.0 place.slot.0 length) }
     ensures rest { S.DriveString.rest string.new ≡ S.DriveString.rest string.old }
 {
     let check = field_check(string, scheme, place, length).right;
@@ -93,7 +93,7 @@ pub fn close_sector<S: DriveString, R: CheckRule>(
     place: Place,
     length: u16,
 )
-    ensures meaning { S.DriveString.meaning string.new ≡ changed (S.DriveString.meaning string.old) place.unit (sector_closed (divider R.CheckRule.generator R.CheckRule.degree scheme.now) place.head.0 place.slot.0 length) }
+    ensures meaning { S.DriveString.meaning string.new ≡ changed (S.DriveString.meaning string.old) place.unit (sector_closed (divider R.CheckRule scheme.now) place.head.0 place.slot.0 length) }
     ensures rest { S.DriveString.rest string.new ≡ S.DriveString.rest string.old }
 {
     write_check(string, scheme, place, length);
@@ -111,7 +111,7 @@ pub fn format_sector<S: DriveString, I: CheckRule, D: CheckRule>(
     length: u16,
     value: u8,
 )
-    ensures meaning { S.DriveString.meaning string.new ≡ changed (S.DriveString.meaning string.old) place.unit (sector_formatted (divider I.CheckRule.generator I.CheckRule.degree id_scheme.now) (divider D.CheckRule.generator D.CheckRule.degree data_scheme.now) place.head.0 place.slot.0 numbers length value) }
+    ensures meaning { S.DriveString.meaning string.new ≡ changed (S.DriveString.meaning string.old) place.unit (sector_formatted (divider I.CheckRule id_scheme.now) (divider D.CheckRule data_scheme.now) place.head.0 place.slot.0 numbers length value) }
     ensures rest { S.DriveString.rest string.new ≡ S.DriveString.rest string.old }
 {
     write_id(string, id_scheme, place, numbers);

@@ -1,6 +1,5 @@
 ghost use Rattle.std.specs.Prelude.{◌≡◌, ◌==◌};
-ghost use Rattle.check_bytes.specs.Rules.{generator_of};
-ghost use Rattle.check_bytes.specs.Schemes.{divider, check_by};
+ghost use Rattle.check_bytes.specs.Schemes.{divider_of, check_by};
 
 use check_bytes::kind::CheckKind;
 use check_bytes::scheme::CheckScheme;
@@ -24,7 +23,7 @@ impl Row {
         expected: u32,
         source: Option<&'static str>,
     ) -> Row
-        ensures computed { result.computed ≡ check_by (divider generator_of (λ _. 16) scheme) bytes.now }
+        ensures computed { result.computed ≡ check_by (divider_of scheme) bytes.now }
         ensures expected { result.expected ≡ expected }
     {
         Row {

@@ -7,4 +7,4 @@ use Rattle.sectors.proofs.field.right_check.Given as goal
 abbrev pub invariant-loop-i : goal.invariant-loop-i
 invariant-loop-i g l =
     let rule = g.R.CheckRule in
-    Fed (divider rule.generator rule.degree l.scheme) (field_bytes (drive (g.S.DriveString.meaning l.string) l.place.unit) l.place.head.0 l.place.slot.0 0 l.i) l.register
+    Fed (divider rule l.scheme) (field_bytes (drive (g.S.DriveString.meaning l.string) l.place.unit) l.place.head.0 l.place.slot.0 0 l.i) l.register

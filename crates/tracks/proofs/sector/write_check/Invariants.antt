@@ -11,6 +11,6 @@ abbrev pub invariant-loop-i : goal.invariant-loop-i
 invariant-loop-i g l =
     let ds = g.S.DriveString.meaning l.initial.string in
     let p = l.place in
-    let check = byte_of_check (divider g.R.CheckRule.generator g.R.CheckRule.degree l.scheme) (field_bytes (drive ds p.unit) p.head.0 p.slot.0 0 l.length) in
+    let check = byte_of_check (divider g.R.CheckRule l.scheme) (field_bytes (drive ds p.unit) p.head.0 p.slot.0 0 l.length) in
     (g.S.DriveString.meaning l.string ≡ changed ds p.unit (with_bytes Data p.head.0 p.slot.0 l.length check l.i))
     × (g.S.DriveString.rest l.string ≡ g.S.DriveString.rest l.initial.string)
