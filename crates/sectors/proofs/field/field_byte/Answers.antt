@@ -6,4 +6,4 @@ pub returns-then-i-gt65535 : goal.returns-then-i-gt65535
 returns-then-i-gt65535 g c =
     let string = c.args.string.now in
     let place = c.args.place in
-    past (drive (g.S.DriveString.meaning string) place.unit) place.head.0 place.slot.0 c.args.i ((g.S.DriveString.sound string).each place.unit) c.if-i-gt65535.true
+    past (drive (g.S.DriveString.meaning string) place.unit) place.head.0 place.slot.0 c.args.i ((g.met.S.DriveString.sound string).each place.unit) c.if-i-gt65535.true
