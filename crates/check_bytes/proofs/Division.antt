@@ -1,5 +1,5 @@
 -- Long division leaves the one remainder.
-use Rattle.std.proofs.Common.{◌≡◌, ℕ, zero, suc, ◌+◌, ◌*◌, ◌^◌, ◌<◌, ◌≤◌, Bool, true, false, cond, leb, List, sym, refl, ap, ◌∙◌, subst, add-zero, add-suc, mul-le-mul_right, mul_assoc, mul_comm, mul-lt-mul_of_pos_right, pow-suc, arith, pow_pos, pow-add, leb-false, leb-true}
+use Rattle.std.proofs.Common.{◌≡◌, ℕ, zero, suc, ◌+◌, ◌*◌, ◌^◌, ◌<◌, ◌≤◌, Bool, true, false, cond, leb, List, sym, refl, ap, ◌∙◌, subst, add-zero, add-suc, mul-le-mul_right, mul-lt-mul_of_pos_right, pow-suc, arith, pow_pos, pow-add, leb-false, leb-true}
 use lib.Bits.{bit_xor, xor_comm, xor_assoc, xor_self, xor_zero_r}
 use Rattle.check_bytes.specs.Polynomials.{Degree, product, IsRemainder, remainder}
 use Rattle.check_bytes.specs.Theorems.{DivisionLeavesARemainder, OnlyOneRemainder}
@@ -9,11 +9,11 @@ use Rattle.check_bytes.proofs.Multiples.{Multiple, Same, multiple_self, multiple
 -- one step lowers the degree by one
 step_lt : (g n k m : ℕ) → Degree g n → m < 2 ^ (n + suc k) → (t : Bool) → leb (2 ^ (n + k)) m ≡ t → cond t (bit_xor m (g * 2 ^ k)) m < 2 ^ (n + k)
 step_lt g n k m deg hm true e =
-    let d : 2 ^ (n + suc k) ≡ 2 ^ (n + k) * 2 = ap (λ x. 2 ^ x) (add-suc n k) ∙ pow-suc 2 (n + k) in
+    let d : 2 ^ (n + suc k) ≡ 2 ^ (n + k) * 2 = rw (add-suc n k) (pow-suc 2 (n + k)) in
     let f : 2 ^ (n + k) ≡ 2 ^ n * 2 ^ k = pow-add 2 n k in
     let l : 2 ^ n * 2 ^ k ≤ g * 2 ^ k = mul-le-mul_right (2 ^ k) deg.0 in
-    let h : g * 2 ^ k < 2 ^ n * 2 * 2 ^ k = mul-lt-mul_of_pos_right (subst (λ (x : ℕ). g < x) (pow-add 2 n 1) deg.1) (pow_pos k) in
-    let s : 2 ^ n * 2 * 2 ^ k ≡ 2 ^ n * 2 ^ k * 2 = mul_assoc (2 ^ n) 2 (2 ^ k) ∙ ap (λ x. 2 ^ n * x) (mul_comm 2 (2 ^ k)) ∙ sym (mul_assoc (2 ^ n) (2 ^ k) 2) in
+    let h : g * 2 ^ k < 2 ^ (n + 1) * 2 ^ k = mul-lt-mul_of_pos_right deg.1 (pow_pos k) in
+    let s : 2 ^ (n + 1) * 2 ^ k ≡ 2 ^ n * 2 ^ k * 2 = rw (pow-add 2 n 1) (grind arith) in
     top_cancels (n + k) m (g * 2 ^ k) (leb-true (2 ^ (n + k)) m e) (omega arith) (omega arith) (omega arith)
 step_lt g n k m deg hm false e = leb-false (2 ^ (n + k)) m e
 

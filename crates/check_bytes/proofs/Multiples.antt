@@ -2,7 +2,6 @@
 use Rattle.std.proofs.Common.{◌≡◌, ℕ, zero, suc, ◌+◌, ◌*◌, ◌^◌, ◌<◌, ◌≤◌, Bool, true, false, cond, ◌⊎◌, List, [], ◌∷◌, sym, refl, ap, ◌∙◌, subst, inl, inr, ⊎_elim, lt_of_lt_of_le, lt_irrefl, mul_assoc, pow-suc, mul-one, arith, pow-add}
 use lib.Bits.{bit_xor, xor_comm, xor_self, xor_zero_r, xor_lt}
 use Rattle.std.proofs.Math.Bool.{xor}
-use Rattle.std.proofs.lemmas.Bool.{cases_lt}
 use Rattle.check_bytes.specs.Polynomials.{Degree, product}
 use Rattle.check_bytes.proofs.Xor.{xor_swap, xor_cancel, xor_join, xor_zero_eq, xor_shl}
 
@@ -13,10 +12,7 @@ Multiple g m = (q : List Bool) × (m ≡ product q g)
 -- the sum of two coefficients
 coefficients : (c d : Bool) (g : ℕ) → cond (xor c d) g 0 ≡ bit_xor (cond c g 0) (cond d g 0)
 unfolding xor
-coefficients true true g = sym (xor_self g)
-coefficients true false g = sym (xor_zero_r g)
-coefficients false true g = refl
-coefficients false false g = refl
+coefficients c d g = grind (arith, xor_self g, xor_zero_r g)
 
 -- the sum of two quotients
 sum : List Bool → List Bool → List Bool
@@ -54,12 +50,7 @@ module _ {g : ℕ} where
 
 -- twice p, of a degree of n and more, stays so high with a polynomial of degree n added to it
 stays_high : (g n p : ℕ) → g < 2 ^ (n + 1) → 2 ^ n ≤ p → 2 ^ n ≤ bit_xor g (p * 2)
-stays_high g n p hg hp =
-    let e : 2 ^ (n + 1) ≡ 2 ^ n * 2 = pow-add 2 n 1 in
-    elim (cases_lt (bit_xor g (p * 2)) (2 ^ (n + 1))) [
-      | inl h ↦ absurd (lt_irrefl (p * 2) (lt_of_lt_of_le (subst (λ (x : ℕ). x < 2 ^ (n + 1)) (xor_cancel g (p * 2)) (xor_lt (n + 1) g (bit_xor g (p * 2)) hg h)) (omega arith)))
-      | inr h ↦ omega arith
-    ]
+stays_high g n p hg hp = grind (arith, xor_lt (n + 1) g (bit_xor g (p * 2)) hg, pow-add 2 n 1, xor_cancel g (p * 2))
 
 -- a multiple is 0, or its degree is at least that of g
 none_or_high : (g n : ℕ) → Degree g n → (q : List Bool) → (product q g ≡ 0) ⊎ (2 ^ n ≤ product q g)
