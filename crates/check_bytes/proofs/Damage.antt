@@ -29,8 +29,7 @@ dividends_same : (g n start : ℕ) (xs ys : List ℕ) → Degree g n → start <
 dividends_same g n start xs ys deg hs hx hy e =
     let x : Holds g n start xs (check_of g n start xs) = holds_check g n start xs deg hs hx in
     let y : Holds g n start ys (check_of g n start ys) = holds_check g n start ys deg hs hy in
-    same_trans (dividend n start xs) (check_of g n start xs) (dividend n start ys) x.left
-    (same_sym (dividend n start ys) (check_of g n start xs) (subst (Same g (dividend n start ys)) (sym e) y.left))
+    same_trans (dividend n start xs) (check_of g n start xs) (dividend n start ys) x.left (rw e (same_sym (dividend n start ys) (check_of g n start ys) y.left))
 
 -- with as many bytes on both sides the start cancels out
 dividends_differ : (n start : ℕ) (xs ys : List ℕ) → length ys ≡ length xs → bit_xor (dividend n start xs) (dividend n start ys) ≡ bit_xor (message xs) (message ys) * 2 ^ n
@@ -55,7 +54,7 @@ middle_is m run other hr ho l =
 
 middle_lt : (n : ℕ) (run other : List ℕ) → Bytes run → Bytes other → length other ≡ length run → 8 * length run ≤ n → bit_xor (message run) (message other) < 2 ^ n
 middle_lt n run other hr ho l short =
-    lt_of_lt_of_le (xor_lt (8 * length run) (message run) (message other) (message_lt run hr) (subst (λ (x : ℕ). message other < 2 ^ (8 * x)) l (message_lt other ho)))
+    lt_of_lt_of_le (xor_lt (8 * length run) (message run) (message other) (message_lt run hr) (rw (← l) (message_lt other ho)))
     (pow_mono {i = 8 * length run} {j = n} short)
 
 pub damage_is_seen : DamageIsSeen

@@ -1,10 +1,10 @@
 -- Long division leaves the one remainder.
-use Rattle.std.proofs.Common.{◌≡◌, ℕ, zero, suc, ◌+◌, ◌*◌, ◌^◌, ◌<◌, ◌≤◌, Bool, true, false, cond, leb, List, sym, refl, ap, ◌∙◌, subst, add-zero, add-suc, mul-le-mul_right, mul-lt-mul_of_pos_right, pow-suc, arith, pow_pos, pow-add, leb-false, leb-true}
+use Rattle.std.proofs.Common.{◌≡◌, ℕ, zero, suc, ◌+◌, ◌*◌, ◌^◌, ◌<◌, ◌≤◌, Bool, true, false, cond, leb, List, sym, refl, ap, ◌∙◌, add-zero, add-suc, mul-le-mul_right, mul-lt-mul_of_pos_right, pow-suc, arith, pow_pos, pow-add, leb-false, leb-true}
 use lib.Bits.{bit_xor, xor_comm, xor_assoc, xor_self, xor_zero_r}
 use Rattle.check_bytes.specs.Polynomials.{Degree, product, IsRemainder, remainder}
 use Rattle.check_bytes.specs.Theorems.{DivisionLeavesARemainder, OnlyOneRemainder}
 use Rattle.check_bytes.proofs.Xor.{xor_cancel, top_cancels}
-use Rattle.check_bytes.proofs.Multiples.{Multiple, Same, multiple_self, multiple_shl, same_refl, same_trans, same_sym, same_below}
+use Rattle.check_bytes.proofs.Multiples.{Same, multiple_self, multiple_shl, same_refl, same_trans, same_sym, same_below}
 
 -- one step lowers the degree by one
 step_lt : (g n k m : ℕ) → Degree g n → m < 2 ^ (n + suc k) → (t : Bool) → leb (2 ^ (n + k)) m ≡ t → cond t (bit_xor m (g * 2 ^ k)) m < 2 ^ (n + k)
@@ -19,12 +19,12 @@ step_lt g n k m deg hm false e = leb-false (2 ^ (n + k)) m e
 
 -- and takes a multiple of g away
 step_same : (g k m : ℕ) (t : Bool) → Same g m (cond t (bit_xor m (g * 2 ^ k)) m)
-step_same g k m true = subst (Multiple g) (sym (xor_cancel m (g * 2 ^ k))) (multiple_shl k multiple_self)
+step_same g k m true = rw (xor_cancel m (g * 2 ^ k)) (multiple_shl k multiple_self)
 step_same g k m false = same_refl m
 
 pub remainder_lt : (g n k m : ℕ) → Degree g n → m < 2 ^ (n + k) → remainder g n k m < 2 ^ n
 unfolding remainder
-remainder_lt g n zero m deg h = subst (λ (x : ℕ). m < 2 ^ x) (add-zero n) h
+remainder_lt g n zero m deg h = rw add-zero at h
 remainder_lt g n (suc k) m deg h = remainder_lt g n k _ deg (step_lt g n k m deg h (leb (2 ^ (n + k)) m) refl)
 
 pub remainder_same : (g n k m : ℕ) → Same g m (remainder g n k m)
