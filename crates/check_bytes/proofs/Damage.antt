@@ -1,7 +1,8 @@
 -- A check and its bytes leave nothing, and damage within the check's width is seen.
-use Rattle.std.proofs.Common.{◌≡◌, ℕ, zero, suc, ◌+◌, ◌*◌, ◌%◌, ◌^◌, ◌<◌, ◌≤◌, true, false, List, [], ◌∷◌, ◌++◌, length, sym, ap, ◌∙◌, subst, lt_of_lt_of_le, mod-eq_of_lt, mul_assoc, pow-suc, zero-add, zero-mul, mul-one, mul-add, arith, length-append, pow_pos, pow_mono, pow-add}
+use Rattle.std.proofs.Common.{◌≡◌, ℕ, zero, suc, ◌+◌, ◌*◌, ◌%◌, ◌^◌, ◌<◌, ◌≤◌, true, false, List, [], ◌∷◌, ◌++◌, length, sym, ap, ◌∙◌, subst, lt_of_lt_of_le, mod-eq_of_lt, mul_assoc, pow-suc, mul-one, mul-add, arith, length-append, pow_pos, pow_mono, pow-add}
 use lib.Bits.{bit_xor, xor_assoc, xor_self, xor_zero_r, xor_lt, xor_mod, xor_shifted, xor_block}
 use Rattle.std.proofs.lemmas.List.Sums.{fold-append}
+use Rattle.std.proofs.lemmas.Grind.{common_steps}
 use Rattle.std.proofs.ByRecursion.{All-append}
 use Rattle.check_bytes.specs.Polynomials.{Degree, product}
 use Rattle.check_bytes.specs.Checks.{message, dividend, check_of, check_bytes}
@@ -15,42 +16,30 @@ use Rattle.check_bytes.proofs.Feeding.{Holds, holds_check}
 multiple_half : (g a : ℕ) → g % 2 ≡ 1 → Multiple g (a * 2) → Multiple g a
 multiple_half g a odd ([], e) = ([], omega arith)
 multiple_half g a odd (true ∷ q, e) =
-    let rest : bit_xor g (product q g * 2) % 2 ≡ bit_xor (g % 2) (product q g * 2 % 2) = xor_mod g (product q g * 2) 1 in
-    let even : product q g * 2 % 2 ≡ 0 = omega arith in
-    let one : bit_xor (g % 2) (product q g * 2 % 2) ≡ 1 = ap (λ x. bit_xor x (product q g * 2 % 2)) odd ∙ ap (bit_xor 1) even in
-    absurd (omega (arith, rest, one, e))
+    let one : bit_xor g (product q g * 2) % 2 ≡ 1 = rw (xor_mod g (product q g * 2) 1, odd) (grind (arith, common_steps)) in
+    absurd (omega (arith, one, e))
 multiple_half g a odd (false ∷ q, e) = (q, omega arith)
 
 multiple_down : (g a k : ℕ) → g % 2 ≡ 1 → Multiple g (a * 2 ^ k) → Multiple g a
-multiple_down g a zero odd h = subst (Multiple g) (mul-one a) h
-multiple_down g a (suc k) odd h =
-    multiple_down g a k odd (multiple_half g (a * 2 ^ k) odd (subst (Multiple g) (ap (λ x. a * x) (pow-suc 2 k) ∙ sym (mul_assoc a (2 ^ k) 2)) h))
+multiple_down g a zero odd h = rw mul-one at h
+multiple_down g a (suc k) odd h = multiple_down g a k odd (multiple_half g (a * 2 ^ k) odd (rw (pow-suc 2 k, ← mul_assoc a (2 ^ k) 2) at h))
 
 -- equal checks say that the dividends differ by a multiple
 dividends_same : (g n start : ℕ) (xs ys : List ℕ) → Degree g n → start < 2 ^ n → Bytes xs → Bytes ys → check_of g n start xs ≡ check_of g n start ys → Same g (dividend n start xs) (dividend n start ys)
 dividends_same g n start xs ys deg hs hx hy e =
     let x : Holds g n start xs (check_of g n start xs) = holds_check g n start xs deg hs hx in
     let y : Holds g n start ys (check_of g n start ys) = holds_check g n start ys deg hs hy in
-    same_trans (dividend n start xs) (check_of g n start xs) (dividend n start ys) x.left
-    (same_sym (dividend n start ys) (check_of g n start xs) (subst (Same g (dividend n start ys)) (sym e) y.left))
+    same_trans (dividend n start xs) (check_of g n start xs) (dividend n start ys) x.left (rw e (same_sym (dividend n start ys) (check_of g n start ys) y.left))
 
 -- with as many bytes on both sides the start cancels out
 dividends_differ : (n start : ℕ) (xs ys : List ℕ) → length ys ≡ length xs → bit_xor (dividend n start xs) (dividend n start ys) ≡ bit_xor (message xs) (message ys) * 2 ^ n
 dividends_differ n start xs ys l =
     let s : ℕ = start * 2 ^ (8 * length xs) in
-    ap (λ k. bit_xor (dividend n start xs) (bit_xor (start * 2 ^ (8 * k)) (message ys * 2 ^ n))) l
-    ∙ xor_swap s (message xs * 2 ^ n) s (message ys * 2 ^ n)
-    ∙ ap (λ z. bit_xor z (bit_xor (message xs * 2 ^ n) (message ys * 2 ^ n))) (xor_self s)
-    ∙ sym (xor_shl n (message xs) (message ys))
+    rw (l, xor_swap s (message xs * 2 ^ n) s (message ys * 2 ^ n), xor_self s) (sym (xor_shl n (message xs) (message ys)))
 
 -- the messages differ by what differs in the middle
 messages_differ : (before run other after : List ℕ) → Bytes after → bit_xor (message (before ++ (run ++ after))) (message (before ++ (other ++ after))) ≡ bit_xor (spelt (message before) run) (spelt (message before) other) * 2 ^ (8 * length after)
-messages_differ before run other after all =
-    let part : (xs : List ℕ) → message (before ++ (xs ++ after)) ≡ spelt (spelt (message before) xs) after =
-    λ xs. fold-append _ 0 before (xs ++ after) ∙ fold-append _ (message before) xs after in
-    ap (λ x. bit_xor x (message (before ++ (other ++ after)))) (part run)
-    ∙ ap (bit_xor (spelt (spelt (message before) run) after)) (part other)
-    ∙ spelt_sum (spelt (message before) run) (spelt (message before) other) after all
+messages_differ before run other after all = simp fold-append (spelt_sum (spelt (message before) run) (spelt (message before) other) after all)
 
 all_front : (xs ys : List ℕ) → Bytes (xs ++ ys) → Bytes xs × Bytes ys
 all_front [] ys h = (tt, h)
@@ -60,16 +49,12 @@ all_front (x ∷ xs) ys h = let rest = all_front xs ys h.1 in ((h.0, rest.0), re
 middle_is : (m : ℕ) (run other : List ℕ) → Bytes run → Bytes other → length other ≡ length run → bit_xor (spelt m run) (spelt m other) ≡ bit_xor (message run) (message other)
 middle_is m run other hr ho l =
     let k : ℕ = 8 * length run in
-    let low : message other < 2 ^ k = subst (λ (x : ℕ). message other < 2 ^ (8 * x)) l (message_lt other ho) in
-    ap (λ x. bit_xor x (spelt m other)) (spelt_from m run)
-    ∙ ap (bit_xor (m * 2 ^ k + message run)) (spelt_from m other ∙ ap (λ x. m * 2 ^ (8 * x) + message other) l)
-    ∙ xor_block k m m (message run) (message other) (message_lt run hr) low
-    ∙ ap (λ x. x * 2 ^ k + bit_xor (message run) (message other)) (xor_self m)
-    ∙ ap (λ x. x + bit_xor (message run) (message other)) (zero-mul (2 ^ k)) ∙ zero-add (bit_xor (message run) (message other))
+    let low : message other < 2 ^ k = rw (← l) (message_lt other ho) in
+    rw (spelt_from m run, spelt_from m other, l, xor_block k m m (message run) (message other) (message_lt run hr) low, xor_self m) (omega arith)
 
 middle_lt : (n : ℕ) (run other : List ℕ) → Bytes run → Bytes other → length other ≡ length run → 8 * length run ≤ n → bit_xor (message run) (message other) < 2 ^ n
 middle_lt n run other hr ho l short =
-    lt_of_lt_of_le (xor_lt (8 * length run) (message run) (message other) (message_lt run hr) (subst (λ (x : ℕ). message other < 2 ^ (8 * x)) l (message_lt other ho)))
+    lt_of_lt_of_le (xor_lt (8 * length run) (message run) (message other) (message_lt run hr) (rw (← l) (message_lt other ho)))
     (pow_mono {i = 8 * length run} {j = n} short)
 
 pub damage_is_seen : DamageIsSeen
@@ -95,17 +80,8 @@ dividend_with width start value bytes h =
     let n : ℕ = 8 * width in
     let s : ℕ = start * 2 ^ (8 * length bytes) in
     let m : ℕ = message bytes * 2 ^ n in
-    let len : 8 * length (bytes ++ check_bytes width value) ≡ 8 * length bytes + n = simp (length-append, check_bytes_length) (mul-add 8 (length bytes) width) in
-    let up : start * 2 ^ (8 * length (bytes ++ check_bytes width value)) ≡ s * 2 ^ n = ap (λ x. start * 2 ^ x) len ∙ ap (λ x. start * x) (pow-add 2 (8 * length bytes) n) ∙ sym (mul_assoc start (2 ^ (8 * length bytes)) (2 ^ n)) in
-    let spell : message (bytes ++ check_bytes width value) ≡ bit_xor m value =
-    fold-append _ 0 bytes (check_bytes width value) ∙ spelt_from (message bytes) (check_bytes width value)
-    ∙ ap (λ x. message bytes * 2 ^ (8 * x) + message (check_bytes width value)) (check_bytes_length width value)
-    ∙ ap (λ x. m + x) (check_bytes_spell width value ∙ mod-eq_of_lt h)
-    ∙ sym (xor_shifted (message bytes) n value h) in
-    ap (λ x. bit_xor x (message (bytes ++ check_bytes width value) * 2 ^ n)) up
-    ∙ ap (λ x. bit_xor (s * 2 ^ n) (x * 2 ^ n)) spell
-    ∙ sym (xor_shl n s (bit_xor m value))
-    ∙ ap (λ x. x * 2 ^ n) (sym (xor_assoc s m value))
+    let spell : message (bytes ++ check_bytes width value) ≡ bit_xor m value = rw (fold-append (λ m byte. m * 2 ^ 8 + byte) 0 bytes, spelt_from (message bytes) (check_bytes width value), check_bytes_length width value, check_bytes_spell width value, mod-eq_of_lt h) (sym (xor_shifted (message bytes) n value h)) in
+    rw (spell, length-append bytes, check_bytes_length width value, mul-add 8 (length bytes) width, pow-add 2 (8 * length bytes) n, ← mul_assoc start, xor_assoc s m value) (sym (xor_shl n s (bit_xor m value)))
 
 pub own_check_leaves_nothing : OwnCheckLeavesNothing
 own_check_leaves_nothing g width start bytes deg hs all =

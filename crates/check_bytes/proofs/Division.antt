@@ -1,30 +1,30 @@
 -- Long division leaves the one remainder.
-use Rattle.std.proofs.Common.{◌≡◌, ℕ, zero, suc, ◌+◌, ◌*◌, ◌^◌, ◌<◌, ◌≤◌, Bool, true, false, cond, leb, List, sym, refl, ap, ◌∙◌, subst, add-zero, add-suc, mul-le-mul_right, mul_assoc, mul_comm, mul-lt-mul_of_pos_right, pow-suc, arith, pow_pos, pow-add, leb-false, leb-true}
+use Rattle.std.proofs.Common.{◌≡◌, ℕ, zero, suc, ◌+◌, ◌*◌, ◌^◌, ◌<◌, ◌≤◌, Bool, true, false, cond, leb, List, sym, refl, ap, ◌∙◌, add-zero, add-suc, mul-le-mul_right, mul-lt-mul_of_pos_right, pow-suc, arith, pow_pos, pow-add, leb-false, leb-true}
 use lib.Bits.{bit_xor, xor_comm, xor_assoc, xor_self, xor_zero_r}
 use Rattle.check_bytes.specs.Polynomials.{Degree, product, IsRemainder, remainder}
 use Rattle.check_bytes.specs.Theorems.{DivisionLeavesARemainder, OnlyOneRemainder}
 use Rattle.check_bytes.proofs.Xor.{xor_cancel, top_cancels}
-use Rattle.check_bytes.proofs.Multiples.{Multiple, Same, multiple_self, multiple_shl, same_refl, same_trans, same_sym, same_below}
+use Rattle.check_bytes.proofs.Multiples.{Same, multiple_self, multiple_shl, same_refl, same_trans, same_sym, same_below}
 
 -- one step lowers the degree by one
 step_lt : (g n k m : ℕ) → Degree g n → m < 2 ^ (n + suc k) → (t : Bool) → leb (2 ^ (n + k)) m ≡ t → cond t (bit_xor m (g * 2 ^ k)) m < 2 ^ (n + k)
 step_lt g n k m deg hm true e =
-    let d : 2 ^ (n + suc k) ≡ 2 ^ (n + k) * 2 = ap (λ x. 2 ^ x) (add-suc n k) ∙ pow-suc 2 (n + k) in
+    let d : 2 ^ (n + suc k) ≡ 2 ^ (n + k) * 2 = rw (add-suc n k) (pow-suc 2 (n + k)) in
     let f : 2 ^ (n + k) ≡ 2 ^ n * 2 ^ k = pow-add 2 n k in
     let l : 2 ^ n * 2 ^ k ≤ g * 2 ^ k = mul-le-mul_right (2 ^ k) deg.0 in
-    let h : g * 2 ^ k < 2 ^ n * 2 * 2 ^ k = mul-lt-mul_of_pos_right (subst (λ (x : ℕ). g < x) (pow-add 2 n 1) deg.1) (pow_pos k) in
-    let s : 2 ^ n * 2 * 2 ^ k ≡ 2 ^ n * 2 ^ k * 2 = mul_assoc (2 ^ n) 2 (2 ^ k) ∙ ap (λ x. 2 ^ n * x) (mul_comm 2 (2 ^ k)) ∙ sym (mul_assoc (2 ^ n) (2 ^ k) 2) in
+    let h : g * 2 ^ k < 2 ^ (n + 1) * 2 ^ k = mul-lt-mul_of_pos_right deg.1 (pow_pos k) in
+    let s : 2 ^ (n + 1) * 2 ^ k ≡ 2 ^ n * 2 ^ k * 2 = rw (pow-add 2 n 1) (grind arith) in
     top_cancels (n + k) m (g * 2 ^ k) (leb-true (2 ^ (n + k)) m e) (omega arith) (omega arith) (omega arith)
 step_lt g n k m deg hm false e = leb-false (2 ^ (n + k)) m e
 
 -- and takes a multiple of g away
 step_same : (g k m : ℕ) (t : Bool) → Same g m (cond t (bit_xor m (g * 2 ^ k)) m)
-step_same g k m true = subst (Multiple g) (sym (xor_cancel m (g * 2 ^ k))) (multiple_shl k multiple_self)
+step_same g k m true = rw (xor_cancel m (g * 2 ^ k)) (multiple_shl k multiple_self)
 step_same g k m false = same_refl m
 
 pub remainder_lt : (g n k m : ℕ) → Degree g n → m < 2 ^ (n + k) → remainder g n k m < 2 ^ n
 unfolding remainder
-remainder_lt g n zero m deg h = subst (λ (x : ℕ). m < 2 ^ x) (add-zero n) h
+remainder_lt g n zero m deg h = rw add-zero at h
 remainder_lt g n (suc k) m deg h = remainder_lt g n k _ deg (step_lt g n k m deg h (leb (2 ^ (n + k)) m) refl)
 
 pub remainder_same : (g n k m : ℕ) → Same g m (remainder g n k m)

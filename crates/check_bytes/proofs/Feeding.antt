@@ -1,5 +1,5 @@
 -- One byte more of a message.
-use Rattle.std.proofs.Common.{◌≡◌, ℕ, ◌+◌, ◌*◌, ◌/◌, ◌%◌, ◌^◌, ◌<◌, ◌≤◌, List, [], ◌∷◌, ◌++◌, length, get_or, take, sym, ap, ◌∙◌, subst, lt_of_lt_of_le, add-zero, mod-lt, mod-eq_of_lt, mul_assoc, mul_comm, add_comm, zero-mul, mul-one, mul-add, arith, length-append, pow_pos, pow_mono, pow-add}
+use Rattle.std.proofs.Common.{◌≡◌, ℕ, ◌+◌, ◌*◌, ◌/◌, ◌%◌, ◌^◌, ◌<◌, ◌≤◌, List, [], ◌∷◌, ◌++◌, length, get_or, take, sym, ap, ◌∙◌, lt_of_lt_of_le, add-zero, mod-lt, mod-eq_of_lt, mul_assoc, add_comm, zero-mul, mul-one, mul-add, arith, length-append, pow_pos, pow_mono, pow-add, refl}
 use lib.Bits.{bit_xor, xor_assoc, xor_lt, xor_shifted, xor_zero_r}
 use lib.Pow.{ones_lt}
 use Rattle.std.proofs.lemmas.List.Sums.{fold_push}
@@ -27,21 +27,13 @@ shifted_lt n m register byte hr hn hb =
 -- the dividend of one byte more
 dividend_push : (n s : ℕ) (bs : List ℕ) (b : ℕ) → b < 2 ^ 8 → dividend n s (bs ++ (b ∷ [])) ≡ shifted n (dividend n s bs) b
 dividend_push n s bs b hb =
-    let len : length (bs ++ (b ∷ [])) ≡ length bs + 1 = length-append bs (b ∷ []) in
-    let up : s * 2 ^ (8 * length (bs ++ (b ∷ []))) ≡ s * 2 ^ (8 * length bs) * 2 ^ 8 =
-    ap (λ x. s * 2 ^ x) (ap (λ x. 8 * x) len ∙ mul-add 8 (length bs) 1) ∙ ap (λ x. s * x) (pow-add 2 (8 * length bs) 8) ∙ sym (mul_assoc s (2 ^ (8 * length bs)) (2 ^ 8)) in
     let low : message (bs ++ (b ∷ [])) ≡ bit_xor (message bs * 2 ^ 8) b = fold_push (λ m x. m * 2 ^ 8 + x) 0 bs b ∙ sym (xor_shifted (message bs) 8 b hb) in
-    let move : message bs * 2 ^ 8 * 2 ^ n ≡ message bs * 2 ^ n * 2 ^ 8 =
-    mul_assoc (message bs) (2 ^ 8) (2 ^ n) ∙ ap (λ x. message bs * x) (mul_comm (2 ^ 8) (2 ^ n)) ∙ sym (mul_assoc (message bs) (2 ^ n) (2 ^ 8)) in
-    let right : message (bs ++ (b ∷ [])) * 2 ^ n ≡ bit_xor (message bs * 2 ^ n * 2 ^ 8) (b * 2 ^ n) =
-    ap (λ x. x * 2 ^ n) low ∙ xor_shl n (message bs * 2 ^ 8) b ∙ ap (λ x. bit_xor x (b * 2 ^ n)) move in
-    ap (λ x. bit_xor x (message (bs ++ (b ∷ [])) * 2 ^ n)) up
-    ∙ ap (bit_xor (s * 2 ^ (8 * length bs) * 2 ^ 8)) right
-    ∙ sym (xor_assoc (s * 2 ^ (8 * length bs) * 2 ^ 8) (message bs * 2 ^ n * 2 ^ 8) (b * 2 ^ n))
-    ∙ ap (λ x. bit_xor x (b * 2 ^ n)) (sym (xor_shl 8 (s * 2 ^ (8 * length bs)) (message bs * 2 ^ n)))
+    let move : message bs * 2 ^ 8 * 2 ^ n ≡ message bs * 2 ^ n * 2 ^ 8 = grind arith in
+    rw (low, length-append bs, mul-add 8 (length bs) 1, pow-add 2 (8 * length bs) 8, ← mul_assoc s, xor_shl n (message bs * 2 ^ 8) b, xor_shl 8 (s * 2 ^ (8 * length bs)) (message bs * 2 ^ n), xor_assoc, move)
+    refl
 
 dividend_none : (n s : ℕ) → dividend n s [] ≡ s
-dividend_none n s = ap (λ x. bit_xor x (0 * 2 ^ n)) (mul-one s) ∙ ap (bit_xor s) (zero-mul (2 ^ n)) ∙ xor_zero_r s
+dividend_none n s = rw (mul-one s, zero-mul (2 ^ n)) (xor_zero_r s)
 
 -- the register holds what the bytes fed so far leave
 pub record Holds (g n s : ℕ) (bs : List ℕ) (register : ℕ) : Type 0 where
@@ -52,8 +44,8 @@ pub record Holds (g n s : ℕ) (bs : List ℕ) (register : ℕ) : Type 0 where
 pub holds_none : (g n s : ℕ) → s < 2 ^ n → Holds g n s [] s
 holds_none g n s h = record {
   low = h;
-  small = subst (λ (x : ℕ). x < 2 ^ (n + 0)) (sym (dividend_none n s)) (subst (λ (x : ℕ). s < 2 ^ x) (sym (add-zero n)) h);
-  left = subst (λ (x : ℕ). Same g x s) (sym (dividend_none n s)) (same_refl s);
+  small = rw (dividend_none n s, add-zero n) h;
+  left = rw (dividend_none n s) (same_refl s);
 }
 
 -- a register that has no bits above its width is fed as it is
@@ -62,24 +54,20 @@ fed_low g n register byte h = ap (λ x. remainder g n 8 (shifted n x byte)) (sym
 
 pub holds_push : (g n s : ℕ) (bs : List ℕ) (register b : ℕ) → Degree g n → b < 2 ^ 8 → Holds g n s bs register → Holds g n s (bs ++ (b ∷ [])) (fed g n register b)
 holds_push g n s bs register b deg hb h =
-    let e : dividend n s (bs ++ (b ∷ [])) ≡ shifted n (dividend n s bs) b = dividend_push n s bs b hb in
-    let len : length (bs ++ (b ∷ [])) ≡ length bs + 1 = length-append bs (b ∷ []) in
-    let up : n + 8 * length (bs ++ (b ∷ [])) ≡ n + 8 * length bs + 8 = omega arith in
-    let next : ℕ = remainder g n 8 (shifted n register b) in
-    subst (Holds g n s (bs ++ (b ∷ []))) (fed_low g n register b h.low)
+    let up : n + 8 * length (bs ++ (b ∷ [])) ≡ n + 8 * length bs + 8 = simp length-append (omega arith) in
+    rw (← fed_low g n register b h.low)
     record {
       low = remainder_lt g n 8 (shifted n register b) deg (shifted_lt n n register b h.low (omega arith) hb);
-      small = subst (λ (x : ℕ). x < 2 ^ (n + 8 * length (bs ++ (b ∷ [])))) (sym e) (subst (λ (x : ℕ). shifted n (dividend n s bs) b < 2 ^ x) (sym up) (shifted_lt n (n + 8 * length bs) (dividend n s bs) b h.small (omega arith) hb));
-      left = subst (λ (x : ℕ). Same g x next) (sym e)
-          (same_trans (shifted n (dividend n s bs) b) (shifted n register b) next
+      small = rw (up, dividend_push n s bs b hb) (shifted_lt n (n + 8 * length bs) (dividend n s bs) b h.small (omega arith) hb);
+      left = rw (dividend_push n s bs b hb)
+          (same_trans (shifted n (dividend n s bs) b) (shifted n register b) _
           (same_sum (dividend n s bs * 2 ^ 8) (register * 2 ^ 8) (b * 2 ^ n) (b * 2 ^ n) (same_shl 8 (dividend n s bs) register h.left) (same_refl (b * 2 ^ n)))
           (remainder_same g n 8 (shifted n register b)));
     }
 
 -- a loop's step over `bytes`
 pub holds_more : (g n s : ℕ) (bytes : List ℕ) (i register : ℕ) → Degree g n → i < length bytes → get_or bytes i 0 < 2 ^ 8 → Holds g n s (take i bytes) register → Holds g n s (take (i + 1) bytes) (fed g n register (get_or bytes i 0))
-holds_more g n s bytes i register deg hi hb h =
-    subst (λ (x : List ℕ). Holds g n s x (fed g n register (get_or bytes i 0))) (sym (take_more bytes i 0 hi)) (holds_push g n s (take i bytes) register (get_or bytes i 0) deg hb h)
+holds_more g n s bytes i register deg hi hb h = rw (take_more bytes i 0 hi) (holds_push g n s (take i bytes) register (get_or bytes i 0) deg hb h)
 
 pub holds_all : (g n s : ℕ) (bs : List ℕ) (register : ℕ) → Degree g n → Holds g n s bs register → register ≡ check_of g n s bs
 unfolding check_of
@@ -93,11 +81,8 @@ start_lt Ones n = ones_lt n
 
 split : (m r b : ℕ) → shifted (m + 8) r b ≡ bit_xor (bit_xor (r / 2 ^ m) b * 2 ^ (m + 8)) ((r % 2 ^ m) * 2 ^ 8)
 split m r b =
-    let parts : r ≡ bit_xor (r / 2 ^ m * 2 ^ m) (r % 2 ^ m) = sym (xor_shifted (r / 2 ^ m) m (r % 2 ^ m) (mod-lt r (pow_pos m)) ∙ shr_split r m) in
-    let up : r / 2 ^ m * 2 ^ m * 2 ^ 8 ≡ r / 2 ^ m * 2 ^ (m + 8) = mul_assoc (r / 2 ^ m) (2 ^ m) (2 ^ 8) ∙ ap (λ x. r / 2 ^ m * x) (sym (pow-add 2 m 8)) in
-    ap (λ x. bit_xor x (b * 2 ^ (m + 8))) (ap (λ x. x * 2 ^ 8) parts ∙ xor_shl 8 (r / 2 ^ m * 2 ^ m) (r % 2 ^ m) ∙ ap (λ x. bit_xor x ((r % 2 ^ m) * 2 ^ 8)) up)
-    ∙ xor_right (r / 2 ^ m * 2 ^ (m + 8)) ((r % 2 ^ m) * 2 ^ 8) (b * 2 ^ (m + 8))
-    ∙ ap (λ x. bit_xor x ((r % 2 ^ m) * 2 ^ 8)) (sym (xor_shl (m + 8) (r / 2 ^ m) b))
+    let parts : bit_xor (r / 2 ^ m * 2 ^ m) (r % 2 ^ m) ≡ r = xor_shifted (r / 2 ^ m) m (r % 2 ^ m) (mod-lt r (pow_pos m)) ∙ shr_split r m in
+    rw (xor_shl (m + 8) (r / 2 ^ m) b, xor_right (r / 2 ^ m * 2 ^ (m + 8)) (b * 2 ^ (m + 8)) ((r % 2 ^ m) * 2 ^ 8), pow-add 2 m 8, ← mul_assoc (r / 2 ^ m) (2 ^ m) (2 ^ 8), ← xor_shl 8 (r / 2 ^ m * 2 ^ m) (r % 2 ^ m), parts) refl
 
 -- t is what the eight high coefficients leave
 pub fed_by_parts : (g m register byte t : ℕ) → Degree g (m + 8) → byte < 2 ^ 8 → t < 2 ^ (m + 8) → Same g (bit_xor (register % 2 ^ (m + 8) / 2 ^ m) byte * 2 ^ (m + 8)) t → bit_xor t ((register % 2 ^ (m + 8) % 2 ^ m) * 2 ^ 8) ≡ fed g (m + 8) register byte
@@ -107,7 +92,7 @@ fed_by_parts g m register byte t deg hb ht s =
     let low : ℕ = (r % 2 ^ m) * 2 ^ 8 in
     remainder_is g (m + 8) 8 (shifted (m + 8) r byte) (bit_xor t low) deg (shifted_lt (m + 8) (m + 8) r byte hr (omega arith) hb)
     (xor_lt (m + 8) t low ht (shl_below (r % 2 ^ m) m 8 (mod-lt r (pow_pos m))))
-    (subst (λ (x : ℕ). Same g x (bit_xor t low)) (sym (split m r byte)) (same_sum (bit_xor (r / 2 ^ m) byte * 2 ^ (m + 8)) t low low s (same_refl low)))
+    (rw (split m r byte) (same_sum _ t low low s (same_refl low)))
 
 -- ---- the theorems on checks
 
@@ -115,7 +100,7 @@ pub holds_check : (g n s : ℕ) (bs : List ℕ) → Degree g n → s < 2 ^ n →
 unfolding check_of
 holds_check g n s bs deg hs all =
     let len : ℕ = 8 * length bs in
-    let low : dividend n s bs < 2 ^ (n + len) = xor_lt (n + len) (s * 2 ^ len) (message bs * 2 ^ n) (shl_below s n len hs) (subst (λ (x : ℕ). message bs * 2 ^ n < 2 ^ x) (add_comm len n) (shl_below (message bs) len n (message_lt bs all))) in
+    let low : dividend n s bs < 2 ^ (n + len) = xor_lt (n + len) (s * 2 ^ len) (message bs * 2 ^ n) (shl_below s n len hs) (rw (add_comm n len) (shl_below (message bs) len n (message_lt bs all))) in
     record { low = remainder_lt g n len (dividend n s bs) deg low; small = low; left = remainder_same g n len (dividend n s bs) }
 
 pub check_is_the_remainder : CheckIsTheRemainder

@@ -1,5 +1,5 @@
 -- Byte strings as polynomials.
-use Rattle.std.proofs.Common.{◌≡◌, ℕ, zero, suc, ◌+◌, ◌*◌, ◌/◌, ◌%◌, ◌^◌, ◌<◌, List, [], ◌∷◌, length, fold, sym, refl, ap, ◌∙◌, not-suc-le-zero, add-zero, mod-lt, mul_assoc, add-mul, zero-add, mul-suc, arith, lit<, pow_pos, pow-add}
+use Rattle.std.proofs.Common.{◌≡◌, ℕ, zero, suc, ◌+◌, ◌*◌, ◌/◌, ◌%◌, ◌^◌, ◌<◌, List, [], ◌∷◌, length, fold, refl, ap, ◌∙◌, not-suc-le-zero, mod-lt, zero-add, mul-suc, arith, lit<, pow_pos, pow-add}
 use lib.Bits.{bit_xor, xor_self, xor_block}
 use Rattle.std.proofs.lemmas.Nat.{mod-pow-add, mul-add-lt}
 use Rattle.check_bytes.specs.Checks.{message, check_bytes}
@@ -9,43 +9,29 @@ use Rattle.check_bytes.specs.Theorems.{Bytes}
 abbrev pub spelt : ℕ → List ℕ → ℕ
 spelt m bytes = fold (λ m byte. m * 2 ^ 8 + byte) m bytes
 
--- 2 ^ (8 * length) of one byte more
-up_one : (b : ℕ) (bs : List ℕ) → 2 ^ (8 * length (b ∷ bs)) ≡ 2 ^ 8 * 2 ^ (8 * length bs)
-up_one b bs =
-    let e : 8 * length (b ∷ bs) ≡ 8 + 8 * length bs = simp mul-suc (omega arith) in
-    ap (λ x. 2 ^ x) e ∙ pow-add 2 8 (8 * length bs)
-
 pub spelt_from : (m : ℕ) (bs : List ℕ) → spelt m bs ≡ m * 2 ^ (8 * length bs) + message bs
 spelt_from m [] = omega arith
 spelt_from m (b ∷ bs) =
     let p : ℕ = 2 ^ (8 * length bs) in
     let here : spelt (m * 2 ^ 8 + b) bs ≡ (m * 2 ^ 8 + b) * p + message bs = spelt_from (m * 2 ^ 8 + b) bs in
     let none : spelt (0 + b) bs ≡ (0 + b) * p + message bs = spelt_from (0 + b) bs in
-    let split : (m * 2 ^ 8 + b) * p ≡ m * 2 ^ 8 * p + b * p = add-mul (m * 2 ^ 8) b p in
-    let bare : (0 + b) * p ≡ b * p = ap (λ x. x * p) (zero-add b) in
-    let up : m * 2 ^ (8 * length (b ∷ bs)) ≡ m * 2 ^ 8 * p = ap (λ x. m * x) (up_one b bs) ∙ sym (mul_assoc m (2 ^ 8) p) in
-    omega (arith, here, none, split, bare, up)
+    let up : 2 ^ (8 * length (b ∷ bs)) ≡ 2 ^ 8 * p = rw (mul-suc, pow-add) (omega arith) in
+    rw up (grind (arith, here, none))
 
 pub message_lt : (bs : List ℕ) → Bytes bs → message bs < 2 ^ (8 * length bs)
 message_lt [] all = lit< tt
 message_lt (b ∷ bs) all =
     let p : ℕ = 2 ^ (8 * length bs) in
-    let hb : b < 2 ^ 8 = all.0 in
-    let rest : message bs < p = message_lt bs all.1 in
     let none : spelt (0 + b) bs ≡ (0 + b) * p + message bs = spelt_from (0 + b) bs in
-    let bare : (0 + b) * p ≡ b * p = ap (λ x. x * p) (zero-add b) in
-    let up : 2 ^ (8 * length (b ∷ bs)) ≡ 2 ^ 8 * p = up_one b bs in
-    let room : b * p + message bs < p * 256 = mul-add-lt b p (message bs) 256 hb rest in
-    omega (arith, none, bare, up, room)
+    let up : 2 ^ (8 * length (b ∷ bs)) ≡ p * 256 = rw (mul-suc, pow-add) (omega arith) in
+    rw (up, none, zero-add b) (mul-add-lt b p (message bs) 256 all.0 (message_lt bs all.1))
 
 -- what differs in front differs as far up
 pub spelt_sum : (x y : ℕ) (bs : List ℕ) → Bytes bs → bit_xor (spelt x bs) (spelt y bs) ≡ bit_xor x y * 2 ^ (8 * length bs)
 spelt_sum x y bs all =
     let k : ℕ = 8 * length bs in
     let low : message bs < 2 ^ k = message_lt bs all in
-    ap (λ a. bit_xor a (spelt y bs)) (spelt_from x bs) ∙ ap (bit_xor (x * 2 ^ k + message bs)) (spelt_from y bs)
-    ∙ xor_block k x y (message bs) (message bs) low low
-    ∙ ap (λ z. bit_xor x y * 2 ^ k + z) (xor_self (message bs)) ∙ add-zero (bit_xor x y * 2 ^ k)
+    rw (spelt_from x bs, spelt_from y bs, xor_block k x y (message bs) (message bs) low low, xor_self (message bs)) (omega arith)
 
 -- byte strings of one length are told apart
 pub spelt_injective : (a b : ℕ) (xs ys : List ℕ) → Bytes xs → Bytes ys → length ys ≡ length xs → spelt a xs ≡ spelt b ys → (a ≡ b) × (xs ≡ ys)
@@ -74,9 +60,4 @@ check_bytes_spell zero value = omega arith
 check_bytes_spell (suc width) value =
     let high : ℕ = value / 2 ^ (8 * width) % 2 ^ 8 in
     let up : 8 * suc width ≡ 8 + 8 * width = simp mul-suc (omega arith) in
-    spelt_from (0 + high) (check_bytes width value)
-    ∙ ap (λ k. (0 + high) * 2 ^ (8 * k) + message (check_bytes width value)) (check_bytes_length width value)
-    ∙ ap (λ z. (0 + high) * 2 ^ (8 * width) + z) (check_bytes_spell width value)
-    ∙ ap (λ z. z * 2 ^ (8 * width) + value % 2 ^ (8 * width)) (zero-add high)
-    ∙ sym (mod-pow-add value 8 (8 * width))
-    ∙ ap (λ k. value % 2 ^ k) (sym up)
+    rw (spelt_from (0 + high) (check_bytes width value), check_bytes_length width value, check_bytes_spell width value, up, mod-pow-add value 8 (8 * width)) (omega arith)
