@@ -19,25 +19,25 @@ use Rattle.plans.proofs.Verdicts.{tests_are_the_rules}
 passed : {X : Type 0} (b : Bool) (f : PlanFault) (r : Result X PlanFault) (x : X) →
     cond b r (Err f) ≡ Ok x → (b ≡ true) × (r ≡ Ok x)
 passed true f r x e = (refl, e)
-passed false f r x e = let z : ◌≡◌ {A = ℕ} 0 1 = cc in absurd (omega arith)
+passed false f r x e = absurd cc
 
 not_stopped : {X : Type 0} (b : Bool) (f : PlanFault) (r : Result X PlanFault) (x : X) →
     cond b (Err f) r ≡ Ok x → (b ≡ false) × (r ≡ Ok x)
 not_stopped false f r x e = (refl, e)
-not_stopped true f r x e = let z : ◌≡◌ {A = ℕ} 0 1 = cc in absurd (omega arith)
+not_stopped true f r x e = absurd cc
 
 answered : (q p : PlanData) (o : Option PlanFault) → answer q o ≡ Ok p → (o ≡ None) × (q ≡ p)
 answered q p None e = (refl, cc)
-answered q p (Some f) e = let z : ◌≡◌ {A = ℕ} 0 1 = cc in absurd (omega arith)
+answered q p (Some f) e = absurd cc
 
 padding_passed : (o : Option ℕ) (r : Result PlanData PlanFault) (p : PlanData) → when_padded o r ≡ Ok p → (o ≡ None) × (r ≡ Ok p)
 padding_passed None r p e = (refl, e)
-padding_passed (Some i) r p e = let z : ◌≡◌ {A = ℕ} 0 1 = cc in absurd (omega arith)
+padding_passed (Some i) r p e = absurd cc
 
 stages_passed : (bs : List ℕ) (r : Result (List Stage) PlanFault) (p : PlanData) → with_stages bs r ≡ Ok p →
     (ss : List Stage) × (r ≡ Ok ss) × (with_stages bs (Ok ss) ≡ Ok p)
 stages_passed bs (Ok ss) p e = (ss, refl, e)
-stages_passed bs (Err f) p e = let z : ◌≡◌ {A = ℕ} 0 1 = cc in absurd (omega arith)
+stages_passed bs (Err f) p e = absurd cc
 
 -- a byte that stands for a movement is its code
 movement_known : (b : ℕ) (m : Movement) → movement_of b ≡ Some m → b ≡ movement_code m
@@ -46,8 +46,8 @@ movement_known b m e = grind (arith, nat_tests)
 stage_front : (o : Option Movement) (k b g i : ℕ) (r : Result (List Stage) PlanFault) (ss : List Stage) →
     with_stage o k b g i r ≡ Ok ss →
     (m : Movement) × (o ≡ Some m) × ((rest : List Stage) × (r ≡ Ok rest) × (ss ≡ record { movement = m; green = g; intergreen = i } ∷ rest))
-stage_front None k b g i r ss e = let z : ◌≡◌ {A = ℕ} 0 1 = cc in absurd (omega arith)
-stage_front (Some m) k b g i (Err f) ss e = let z : ◌≡◌ {A = ℕ} 0 1 = cc in absurd (omega arith)
+stage_front None k b g i r ss e = absurd cc
+stage_front (Some m) k b g i (Err f) ss e = absurd cc
 stage_front (Some m) k b g i (Ok rest) ss e = (m, refl, (rest, refl, cc))
 
 -- stages that were read are the front of the bytes
@@ -55,9 +55,9 @@ stages_front : (n k : ℕ) (bs : List ℕ) (ss : List Stage) → stages_in n k b
     (length ss ≡ n) × ((tail : List ℕ) × (bs ≡ stages_bytes ss ++ tail))
 stages_front zero k bs ss e =
     let h : ss ≡ [] = cc in (ap length h, (bs, ap (λ x. stages_bytes x ++ bs) (sym h)))
-stages_front (suc n) k [] ss e = let z : ◌≡◌ {A = ℕ} 0 1 = cc in absurd (omega arith)
-stages_front (suc n) k (b ∷ []) ss e = let z : ◌≡◌ {A = ℕ} 0 1 = cc in absurd (omega arith)
-stages_front (suc n) k (b ∷ g ∷ []) ss e = let z : ◌≡◌ {A = ℕ} 0 1 = cc in absurd (omega arith)
+stages_front (suc n) k [] ss e = absurd cc
+stages_front (suc n) k (b ∷ []) ss e = absurd cc
+stages_front (suc n) k (b ∷ g ∷ []) ss e = absurd cc
 stages_front (suc n) k (b ∷ g ∷ i ∷ bs) ss e =
     let f = stage_front (movement_of b) k b g i (stages_in n (k + 1) bs) ss e in
     let h = stages_front n (k + 1) bs f.2.0 f.2.1 in
