@@ -6,16 +6,13 @@ use Rattle.std.proofs.lemmas.List.Sums.{sum_by-cons}
 use Rattle.plans.specs.declared.fault.PlanFault.{PlanFault}
 use Rattle.plans.specs.declared.stage.Stage.{Stage}
 use Rattle.plans.specs.Stages.{stage_seconds}
-use Rattle.plans.specs.Rules.{PlanData, Legal, LegalStage, within, or_else, times_fault, stage_fault, total, fault_in}
+use Rattle.plans.specs.Rules.{PlanData, Legal, LegalStage, or_else, times_fault, stage_fault, total, fault_in}
 use Rattle.plans.specs.Theorems.{TestsAreTheRules, EachPlanIsLegal}
 use Rattle.plans.specs.Told.{plan_of}
 
 or_else_none : (o later : Option PlanFault) → or_else o later ≡ None → (o ≡ None) × (later ≡ None)
 or_else_none None later e = (refl, e)
 or_else_none (Some f) later e = absurd cc
-
-within_parts : (low x high : ℕ) → within low x high ≡ true → (low ≤ x) × (x ≤ high)
-within_parts low x high e = grind (arith, nat_tests)
 
 -- the tests of one stage, and those of all
 stage_passed : (n : ℕ) (s : Stage) → times_fault n s ≡ None → s.green ≤ 255 → LegalStage s
