@@ -1,43 +1,36 @@
 -- Bytes that say a plan are that plan's bytes, with padding.
-use Rattle.std.proofs.Common.{◌≡◌, ℕ, zero, suc, ◌+◌, ◌*◌, ◌/◌, ◌%◌, ◌<◌, ◌≤◌, Bool, true, false, not, cond, ◌&&◌, eqb, ltb, List, [], ◌∷◌, ◌++◌, length, get_or, drop, replicate, Some, None, Ok, Err, Option, Result, sym, refl, ap, ◌∙◌, subst, arith}
+use Rattle.std.proofs.Common.{◌≡◌, ℕ, zero, suc, ◌+◌, ◌*◌, ◌/◌, ◌%◌, ◌<◌, ◌≤◌, not, cond, eqb, List, [], ◌∷◌, ◌++◌, length, get_or, drop, replicate, Some, None, Ok, Err, Option, Result, sym, refl, ap, ◌∙◌, subst, arith}
 use Rattle.std.proofs.ByRecursion.{All-get_or}
 use Rattle.std.proofs.lemmas.List.{drop-drop, drop_at}
-use Rattle.std.proofs.lemmas.Bool.{and_parts, eqb-true, ltb-false}
 use Rattle.std.proofs.lemmas.Bool.Decides.{nat_tests}
 use Rattle.plans.specs.declared.fault.PlanFault.{PlanFault}
 use Rattle.plans.specs.declared.stage.Movement.{Movement}
 use Rattle.plans.specs.declared.stage.Stage.{Stage}
 use Rattle.plans.specs.Stages.{movement_code, movement_of}
-use Rattle.plans.specs.Rules.{PlanData, Legal, fault_in, answer, judged}
-use Rattle.plans.specs.Bytes.{stages_bytes, encoded, with_stage, stages_in, stray, end_of, when_padded, with_stages}
+use Rattle.plans.specs.Rules.{PlanData, Legal, fault_in, answer}
+use Rattle.plans.specs.Bytes.{stages_bytes, encoded, with_stage, stages_in, stray, end_of, when_padded, with_stages, decoded}
 use Rattle.plans.specs.Theorems.{AcceptedIsAPlan}
 use Rattle.plans.proofs.Back.{length_stages_bytes}
 use Rattle.plans.proofs.Heads.{plan_with}
 use Rattle.plans.proofs.Verdicts.{tests_are_the_rules}
 
--- a test that was passed on the way to an answer
-passed : {X : Type 0} (b : Bool) (f : PlanFault) (r : Result X PlanFault) (x : X) →
-    cond b r (Err f) ≡ Ok x → (b ≡ true) × (r ≡ Ok x)
-passed true f r x e = (refl, e)
-passed false f r x e = let z : ◌≡◌ {A = ℕ} 0 1 = cc in absurd (omega arith)
+-- the tests of the header that were passed on the way to an answer
+header_passed : (bs : List ℕ) (p : PlanData) → decoded bs ≡ Ok p →
+    9 ≤ length bs × (get_or bs 0 0 ≡ 0x53) × (get_or bs 1 0 ≡ 0x50) × (get_or bs 2 0 ≡ 1)
+    × (with_stages bs (stages_in (get_or bs 8 0) 1 (drop 9 bs)) ≡ Ok p)
+header_passed bs p e = grind (arith, nat_tests)
 
-not_stopped : {X : Type 0} (b : Bool) (f : PlanFault) (r : Result X PlanFault) (x : X) →
-    cond b (Err f) r ≡ Ok x → (b ≡ false) × (r ≡ Ok x)
-not_stopped false f r x e = (refl, e)
-not_stopped true f r x e = let z : ◌≡◌ {A = ℕ} 0 1 = cc in absurd (omega arith)
-
-answered : (q p : PlanData) (o : Option PlanFault) → answer q o ≡ Ok p → (o ≡ None) × (q ≡ p)
-answered q p None e = (refl, cc)
-answered q p (Some f) e = let z : ◌≡◌ {A = ℕ} 0 1 = cc in absurd (omega arith)
-
-padding_passed : (o : Option ℕ) (r : Result PlanData PlanFault) (p : PlanData) → when_padded o r ≡ Ok p → (o ≡ None) × (r ≡ Ok p)
-padding_passed None r p e = (refl, e)
-padding_passed (Some i) r p e = let z : ◌≡◌ {A = ℕ} 0 1 = cc in absurd (omega arith)
+-- the padding and the rules that were passed on the way to an answer
+padding_passed : (o : Option ℕ) (q p : PlanData) (t : Option PlanFault) → when_padded o (answer q t) ≡ Ok p →
+    (o ≡ None) × (t ≡ None) × (q ≡ p)
+padding_passed None q p None e = (refl, refl, cc)
+padding_passed None q p (Some f) e = absurd cc
+padding_passed (Some i) q p t e = absurd cc
 
 stages_passed : (bs : List ℕ) (r : Result (List Stage) PlanFault) (p : PlanData) → with_stages bs r ≡ Ok p →
     (ss : List Stage) × (r ≡ Ok ss) × (with_stages bs (Ok ss) ≡ Ok p)
 stages_passed bs (Ok ss) p e = (ss, refl, e)
-stages_passed bs (Err f) p e = let z : ◌≡◌ {A = ℕ} 0 1 = cc in absurd (omega arith)
+stages_passed bs (Err f) p e = absurd cc
 
 -- a byte that stands for a movement is its code
 movement_known : (b : ℕ) (m : Movement) → movement_of b ≡ Some m → b ≡ movement_code m
@@ -46,8 +39,8 @@ movement_known b m e = grind (arith, nat_tests)
 stage_front : (o : Option Movement) (k b g i : ℕ) (r : Result (List Stage) PlanFault) (ss : List Stage) →
     with_stage o k b g i r ≡ Ok ss →
     (m : Movement) × (o ≡ Some m) × ((rest : List Stage) × (r ≡ Ok rest) × (ss ≡ record { movement = m; green = g; intergreen = i } ∷ rest))
-stage_front None k b g i r ss e = let z : ◌≡◌ {A = ℕ} 0 1 = cc in absurd (omega arith)
-stage_front (Some m) k b g i (Err f) ss e = let z : ◌≡◌ {A = ℕ} 0 1 = cc in absurd (omega arith)
+stage_front None k b g i r ss e = absurd cc
+stage_front (Some m) k b g i (Err f) ss e = absurd cc
 stage_front (Some m) k b g i (Ok rest) ss e = (m, refl, (rest, refl, cc))
 
 -- stages that were read are the front of the bytes
@@ -55,9 +48,9 @@ stages_front : (n k : ℕ) (bs : List ℕ) (ss : List Stage) → stages_in n k b
     (length ss ≡ n) × ((tail : List ℕ) × (bs ≡ stages_bytes ss ++ tail))
 stages_front zero k bs ss e =
     let h : ss ≡ [] = cc in (ap length h, (bs, ap (λ x. stages_bytes x ++ bs) (sym h)))
-stages_front (suc n) k [] ss e = let z : ◌≡◌ {A = ℕ} 0 1 = cc in absurd (omega arith)
-stages_front (suc n) k (b ∷ []) ss e = let z : ◌≡◌ {A = ℕ} 0 1 = cc in absurd (omega arith)
-stages_front (suc n) k (b ∷ g ∷ []) ss e = let z : ◌≡◌ {A = ℕ} 0 1 = cc in absurd (omega arith)
+stages_front (suc n) k [] ss e = absurd cc
+stages_front (suc n) k (b ∷ []) ss e = absurd cc
+stages_front (suc n) k (b ∷ g ∷ []) ss e = absurd cc
 stages_front (suc n) k (b ∷ g ∷ i ∷ bs) ss e =
     let f = stage_front (movement_of b) k b g i (stages_in n (k + 1) bs) ss e in
     let h = stages_front n (k + 1) bs f.2.0 f.2.1 in
@@ -115,23 +108,11 @@ whole bs ss long low s p v r z =
     let front = front_nine bs long in
     (length tail, cc)
 
-of_the_same : (bs : List ℕ) (q p : PlanData) (k : ℕ) → q ≡ p → bs ≡ encoded q ++ replicate k 0 → bs ≡ encoded p ++ replicate k 0
-of_the_same bs q p k e h = h ∙ ap (λ x. encoded x ++ replicate k 0) e
-
 pub accepted_is_a_plan : AcceptedIsAPlan
 accepted_is_a_plan bs p bytes e =
-    let a = not_stopped (ltb (length bs) 9) _ _ p e in
-    let b = passed (eqb (get_or bs 0 0) 0x53 && eqb (get_or bs 1 0) 0x50) _ _ p a.1 in
-    let d = passed (eqb (get_or bs 2 0) 1) _ _ p b.1 in
-    let f = stages_passed bs (stages_in (get_or bs 8 0) 1 (drop 9 bs)) p d.1 in
-    let g = padding_passed (stray (end_of bs) (drop (end_of bs) bs)) (judged (plan_with bs f.0)) p f.2 in
-    let h = answered (plan_with bs f.0) p (fault_in (plan_with bs f.0)) g.1 in
-    let marks = and_parts (eqb (get_or bs 0 0) 0x53) (eqb (get_or bs 1 0) 0x50) b.0 in
-    let long : 9 ≤ length bs = ltb-false (length bs) 9 a.0 in
+    let a = header_passed bs p e in
+    let f = stages_passed bs (stages_in (get_or bs 8 0) 1 (drop 9 bs)) p a.4 in
+    let g = padding_passed (stray (end_of bs) (drop (end_of bs) bs)) (plan_with bs f.0) p (fault_in (plan_with bs f.0)) f.2 in
     let low : get_or bs 4 0 < 256 = All-get_or (λ x. x < 256) bs 4 0 (omega arith) bytes in
-    let w =
-    whole bs f.0 long low (eqb-true (get_or bs 0 0) 0x53 marks.0) (eqb-true (get_or bs 1 0) 0x50 marks.1)
-    (eqb-true (get_or bs 2 0) 1 d.0) f.1 g.0 in (
-      subst Legal h.1 ((tests_are_the_rules (plan_with bs f.0)).0 h.0),
-      (w.0, of_the_same bs (plan_with bs f.0) p w.0 h.1 w.1),
-    )
+    subst (λ q. Legal q × ((k : ℕ) × (bs ≡ encoded q ++ replicate k 0))) g.2
+    ((tests_are_the_rules (plan_with bs f.0)).0 g.1, whole bs f.0 a.0 low a.1 a.2 a.3 f.1 g.0)

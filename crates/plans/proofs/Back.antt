@@ -1,8 +1,7 @@
 -- The bytes of a legal plan say that plan.
-use Rattle.std.proofs.Common.{◌≡◌, ℕ, zero, suc, ◌+◌, ◌*◌, List, [], ◌∷◌, ◌++◌, length, drop, replicate, Some, None, Ok, Result, sym, refl, ap, ◌∙◌, arith}
+use Rattle.std.proofs.Common.{◌≡◌, ℕ, zero, suc, ◌+◌, ◌*◌, List, [], ◌∷◌, ◌++◌, length, drop, replicate, Some, None, Ok, sym, refl, ap, ◌∙◌, arith}
 use native.Mathlib.Nat.{mod-add-div'}
 use Rattle.std.proofs.lemmas.List.{drop-drop, drop_at}
-use Rattle.plans.specs.declared.fault.PlanFault.{PlanFault}
 use Rattle.plans.specs.declared.stage.Movement.{Movement}
 use Rattle.plans.specs.declared.stage.Movement.TheVariants.{MainRoad, SideRoad, TurningTraffic, Pedestrians}
 use Rattle.plans.specs.declared.stage.Stage.{Stage}
@@ -58,10 +57,6 @@ encoding_is_read_back p k l =
     ∙ ap judged (same_junction p k)
     ∙ ap (answer p) (legal_passed p l)
 
-ok_same : (p q : PlanData) → ◌≡◌ {A = Result PlanData PlanFault} (Ok p) (Ok q) → p ≡ q
-ok_same p q e = cc
-
 pub bytes_tell_plans_apart : BytesTellPlansApart
 bytes_tell_plans_apart p q l m e =
-    ok_same p q
-    (sym (encoding_is_read_back p 0 l) ∙ ap (λ bs. decoded (bs ++ replicate 0 0)) e ∙ encoding_is_read_back q 0 m)
+    let same = sym (encoding_is_read_back p 0 l) ∙ ap (λ bs. decoded (bs ++ replicate 0 0)) e ∙ encoding_is_read_back q 0 m in cc

@@ -1,5 +1,6 @@
 // A fault in words.
-ghost use Rattle.std.specs.Prelude.{Some};
+ghost use Rattle.std.specs.Prelude.{Some, codes};
+ghost use Rattle.std.specs.Fmt.{◌++?◌, DisplaysOnOk, decimal};
 ghost use Rattle.plans.specs.Texts.{fault_text};
 
 use crate::fault::PlanFault;
@@ -10,53 +11,36 @@ impl fmt::Display for PlanFault {
     ghost output = { λ fault. Some (fault_text fault) };
 
     fn fmt<W: fmt::Write>(&self, f: &mut fmt::Formatter<W>) -> fmt::Result {
-        match self {
+        match *self {
             PlanFault::Short => f.write_str("the bytes end before the plan does"),
             PlanFault::NotAPlan => f.write_str("the bytes do not begin with the marker SP"),
-            PlanFault::UnknownVersion(version) => {
-                write!(f, "the format's version is {version}, not 1")
-            }
+            PlanFault::UnknownVersion(version) => wrong(f, "the format's version", version, "1"),
             PlanFault::UnknownMovement { stage, code } => {
-                write!(
-                    f,
-                    "in stage {stage} the movement's code is {code}, not 1 to 4"
-                )
+                wrong_in(f, stage, "the movement's code", code, "1 to 4")
             }
             PlanFault::NotPadding { position } => {
                 write!(f, "byte {position} comes after the plan and is not 0")
             }
             PlanFault::NoJunction => f.write_str("the junction number is 0"),
             PlanFault::NoNumber => f.write_str("the plan number is 0"),
-            PlanFault::CycleOutOfRange(seconds) => {
-                write!(f, "the cycle length in seconds is {seconds}, not 20 to 240")
-            }
-            PlanFault::OffsetOutOfRange(seconds) => {
-                write!(
-                    f,
-                    "the offset in seconds is {seconds}, not below the cycle length"
-                )
-            }
-            PlanFault::StageCount(count) => write!(
+            PlanFault::CycleOutOfRange(s) => wrong(
                 f,
-                "the number of stages is {count}, not 2 to 8"
+                "the cycle length in seconds",
+                s,
+                "20 to 240",
             ),
+            PlanFault::OffsetOutOfRange(s) => {
+                wrong(f, "the offset in seconds", s, "below the cycle length")
+            }
+            PlanFault::StageCount(n) => wrong(f, "the number of stages", n, "2 to 8"),
             PlanFault::GreenTooShort { stage, seconds } => {
-                write!(
-                    f,
-                    "in stage {stage} the green in seconds is {seconds}, not 4 or more"
-                )
+                wrong_in(f, stage, "the green in seconds", seconds, "4 or more")
             }
             PlanFault::IntergreenOutOfRange { stage, seconds } => {
-                write!(
-                    f,
-                    "in stage {stage} the intergreen in seconds is {seconds}, not 3 to 15"
-                )
+                wrong_in(f, stage, "the intergreen in seconds", seconds, "3 to 15")
             }
-            PlanFault::CycleNotFilled { seconds } => {
-                write!(
-                    f,
-                    "the stages' time in seconds is {seconds}, not the cycle length"
-                )
+            PlanFault::CycleNotFilled { seconds: s } => {
+                wrong(f, "the stages' time in seconds", s, "the cycle length")
             }
             PlanFault::Memory => f.write_str("there is no memory for the plan"),
         }
@@ -64,3 +48,28 @@ impl fmt::Display for PlanFault {
 }
 
 impl Error for PlanFault {}
+
+// A value and what it should be.
+fn wrong<W: fmt::Write, D: fmt::Display + Drop>(
+    f: &mut fmt::Formatter<W>,
+    what: &str,
+    found: D,
+    wanted: &str,
+) -> fmt::Result
+    ensures { DisplaysOnOk W.write_str_gives f.old result (Some what.now ++? Some (codes " is ") ++? D.output found ++? Some (codes ", not ") ++? Some wanted.now) f.new }
+{
+    write!(f, "{what} is {found}, not {wanted}")
+}
+
+// The same of a stage.
+fn wrong_in<W: fmt::Write>(
+    f: &mut fmt::Formatter<W>,
+    stage: u8,
+    what: &str,
+    found: u8,
+    wanted: &str,
+) -> fmt::Result
+    ensures { DisplaysOnOk W.write_str_gives f.old result (Some (codes "in stage ") ++? Some (decimal stage) ++? Some (codes " ") ++? Some what.now ++? Some (codes " is ") ++? Some (decimal found) ++? Some (codes ", not ") ++? Some wanted.now) f.new }
+{
+    write!(f, "in stage {stage} {what} is {found}, not {wanted}")
+}

@@ -15,7 +15,7 @@ impl Plan {
         ensures { IfOk result (λ v. v.items ≡ encoded (plan_of self.now)) }
     {
         let mut bytes = Vec::from_slice(heap, &self.header())?;
-        for stage in self.values.stages.as_slice() {
+        for stage in &self.values.stages {
             bytes.extend_from_slice(&bytes_of(*stage))?;
         }
         Ok(bytes)

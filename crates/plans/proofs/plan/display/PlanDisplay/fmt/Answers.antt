@@ -4,8 +4,13 @@ use Rattle.std.specs.Fmt.{HasWritten}
 use Rattle.std.proofs.lemmas.List.{at_drop_more, at_drop_all}
 use Rattle.plans.specs.Texts.{heading_text, stage_text, stages_text}
 use Rattle.plans.specs.Told.{plan_of}
-use Rattle.plans.proofs.Turns.{blank}
+use Rattle.plans.specs.declared.stage.Movement.TheVariants.{MainRoad}
+use Rattle.plans.specs.declared.stage.Stage.{Stage}
 use Rattle.plans.proofs.plan.display.PlanDisplay.fmt.Goals as goal
+
+-- what a stage past the end reads as
+abbrev blank : Stage
+blank = record { movement = MainRoad; green = 0; intergreen = 0 }
 
 -- one more line
 pub loop-i-preserved : goal.loop-i-preserved
