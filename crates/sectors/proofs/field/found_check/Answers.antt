@@ -10,6 +10,3 @@ overflow_add-found g c = omega (arith, few _ _ _ c.loop-i.found (omega arith) c.
 
 pub loop-i-preserved : goal.loop-i-preserved
 loop-i-preserved g c = spells _ _ _ (c.from.result + c.from-in-loop-i.result) (omega arith) (omega arith) (cc) c.loop-i.invariant
-
-pub returns : goal.returns
-returns g c = grind (arith, c.loop-i.invariant.is)
