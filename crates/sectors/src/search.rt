@@ -37,7 +37,7 @@ pub fn find_sector<S: DriveString, R: CheckRule>(
 {
     let count = string.geometry(track.unit).slots;
     let mut slot = 0;
-    // A loop that is left by `break` with its answer, by a rule of the project.
+    // The search stays a loop that is left by `break`, with the slot found or with none.
     loop {
         if slot >= count {
             break None;
