@@ -1,4 +1,4 @@
-ghost use Rattle.std.specs.Prelude.{◌≡◌, [], length, take, drop, slice_index};
+ghost use Rattle.std.specs.Prelude.{◌≡◌, ◌≤◌, [], length, take, drop, slice_index};
 ghost use Rattle.registers.specs.Buffers.{added};
 
 use std::marker::Model;
@@ -52,7 +52,8 @@ impl Buffer {
     }
 
     pub fn count(self) -> u8
-        ensures { result ≡ length self }
+        ensures value { result ≡ length self }
+        ensures few { length self ≤ 8 }
     {
         self.count
     }

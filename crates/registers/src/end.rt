@@ -1,7 +1,7 @@
 ghost use Rattle.std.specs.Prelude.{◌≡◌};
 ghost use Rattle.registers.specs.Ends.{error_byte, is_normal, requests_reset, shows_id_error, seek_byte, seek_normal};
 
-// How a transfer ends.
+// How a transfer ends. The normal end is one of them and no `Ok`, since each has an error byte and status bits.
 #[derive(Clone, Copy, PartialEq, Eq)]
 pub enum End {
     Normal,
