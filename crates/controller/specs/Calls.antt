@@ -22,19 +22,12 @@ abbrev pub less_wanted : Running → Running
 less_wanted running.Nothing = running.Nothing
 less_wanted (running.Seek unit target) = running.Seek unit target
 less_wanted (running.Recalibrate unit pulses) = running.Recalibrate unit pulses
-less_wanted (running.Transfer t) =
-    running.Transfer (record { kind = t.kind; unit = t.unit; setting = t.setting; numbers = t.numbers; stage = t.stage; wanted = t.wanted - 1; cut = t.cut })
-less_wanted (running.Format f) =
-    running.Format (record { unit = f.unit; setting = f.setting; head = f.head; count = f.count; pattern = f.pattern; stage = f.stage; wanted = f.wanted - 1 })
+less_wanted (running.Transfer t) = running.Transfer (record t { wanted = t.wanted - 1 })
+less_wanted (running.Format f) = running.Format (record f { wanted = f.wanted - 1 })
 
 -- the buffer for parameters holds one byte alone: it drops results
 abbrev pub first_parameter : ℕ → State → State
-first_parameter byte s =
-    record {
-      drives = s.drives;
-      buffer = byte ∷ [];
-      registers = record { running = s.registers.running; flags = s.registers.flags; setting = s.registers.setting; units = s.registers.units; results = false };
-    }
+first_parameter byte s = record s { buffer = byte ∷ []; registers = record s.registers { results = false } }
 
 -- unless it holds eight
 abbrev pub byte_kept : ℕ → State → Answer × State
@@ -68,7 +61,7 @@ read_step s = cond (is_readable s) (handed s.buffer s) (Err NothingToRead, s)
 
 -- nothing more is wanted of this sector, and what is left of it is hidden from the host or taken as 00
 abbrev pub cut_off : Transfer → Transfer
-cut_off t = record { kind = t.kind; unit = t.unit; setting = t.setting; numbers = t.numbers; stage = t.stage; wanted = 0; cut = true }
+cut_off t = record t { wanted = 0; cut = true }
 
 -- in Read Data the buffer is emptied too
 abbrev pub transfer_cut : Kind → Transfer → State → Answer × State

@@ -11,11 +11,7 @@ use Rattle.controller.specs.State.{State}
 -- nothing runs any more; these flags show, and the buffer holds these results
 abbrev pub ended : Flags → List ℕ → State → State
 ended flags results s =
-    record {
-      drives = s.drives;
-      buffer = results;
-      registers = record { running = Nothing; flags = flags; setting = s.registers.setting; units = s.registers.units; results = true };
-    }
+    record s { buffer = results; registers = record s.registers { running = Nothing; flags = flags; results = true } }
 
 -- CEH for a normal end, CEL for another
 abbrev pub plain_flags : Bool → Flags

@@ -32,11 +32,7 @@ parameters s = cond s.registers.results [] s.buffer
 -- a disk command is taken: the buffer is empty, the other status bits are 0, and it runs
 abbrev pub begun : Running → State → State
 begun r s =
-    record {
-      drives = s.drives;
-      buffer = [];
-      registers = record { running = r; flags = no_flags; setting = s.registers.setting; units = s.registers.units; results = false };
-    }
+    record s { buffer = []; registers = record s.registers { running = r; flags = no_flags; results = false } }
 
 -- an invalid one leaves CEH and CEL 1, CB 0 and the buffer empty; an earlier Specify stays in force
 abbrev pub both_ends : Flags
@@ -49,16 +45,11 @@ invalid s = with_flags both_ends (begun running.Nothing s)
 -- stays
 abbrev pub reset_done : State → State
 reset_done s =
-    record {
-      drives = s.drives;
-      buffer = [];
-      registers = record { running = running.Nothing; flags = no_flags; setting = None; units = s.registers.units; results = false };
-    }
+    record s { buffer = []; registers = record s.registers { running = running.Nothing; flags = no_flags; setting = None; results = false } }
 
 -- CLCE clears CEH and CEL
 abbrev pub end_cleared : State → State
-end_cleared s =
-    with_flags (record { ended_high = false; ended_low = false; reset_request = s.registers.flags.reset_request; id_error = s.registers.flags.id_error }) s
+end_cleared s = with_flags (record s.registers.flags { ended_high = false; ended_low = false }) s
 
 -- CLB empties the buffer, only while CB is 0
 abbrev pub buffer_cleared : State → State
@@ -76,10 +67,9 @@ auxiliary_done a s =
 abbrev pub setting_made : Option Setting → State → State
 setting_made None s = invalid s
 setting_made (Some setting) s =
-    record {
-      drives = s.drives;
+    record s {
       buffer = [];
-      registers = record { running = running.Nothing; flags = plain_flags true; setting = Some setting; units = s.registers.units; results = true };
+      registers = record s.registers { running = running.Nothing; flags = plain_flags true; setting = Some setting; results = true };
     }
 
 -- UST, bit 4 to 0: selected, seek complete (1), track 000, ready, fault
