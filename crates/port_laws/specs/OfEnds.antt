@@ -1,6 +1,7 @@
 -- Every command ends.
 use Rattle.std.specs.Prelude.{◌≡◌, ℕ, ◌+◌, ◌-◌, ◌*◌, ◌<◌, Bool, true, false, cond, not, ◌&&◌, List, [], ◌∷◌, ◌++◌, length, ◌==◌}
 use Rattle.drives.specs.Drives.{Drive}
+use Rattle.drives.specs.Sound.{Rest}
 use Rattle.registers.specs.declared.running.Running.{Running}
 use Rattle.registers.specs.declared.running.Running.TheVariants.{Nothing, Seek, Recalibrate, Transfer, Format}
 use Rattle.registers.specs.declared.running.Stage.{Stage}
@@ -87,19 +88,19 @@ abbrev pub AreBytes : List Call → Type 0
 AreBytes [] = Unit {0}
 AreBytes (call ∷ past) = IsByte call × AreBytes past
 
-module _ (ds : List Drive) (past : List Call) where
+module _ (ds : List Drive) (rest : Rest) (past : List Call) where
   -- CB is 1 at the moment after `past` and at every moment from then on
   abbrev pub StaysBusy : List Call → Type 0
-  StaysBusy [] = busy (after ds past) ≡ true
-  StaysBusy (call ∷ more) = StaysBusy more × (busy (after ds (call ∷ (more ++ past))) ≡ true)
+  StaysBusy [] = busy (after ds rest past) ≡ true
+  StaysBusy (call ∷ more) = StaysBusy more × (busy (after ds rest (call ∷ (more ++ past))) ≡ true)
 
   -- the turns among them, but for those that wait for the host to take bytes
   abbrev pub turns_among : List Call → ℕ
   turns_among [] = 0
-  turns_among (call ∷ more) = turns_among more + counts call (after ds (more ++ past))
+  turns_among (call ∷ more) = turns_among more + counts call (after ds rest (more ++ past))
 
 -- whatever the host does, a command that runs after some calls is over once so many turns are made as are left by its
 -- parameters, DTL and PCN, not counting those that wait for the host
 abbrev pub CommandsEnd : Type 0
 CommandsEnd =
-    (ds : List Drive) (past more : List Call) → AreBytes (more ++ past) → StaysBusy ds past more → turns_among ds past more < turns_left (after ds past)
+    (ds : List Drive) (rest : Rest) (past more : List Call) → AreBytes (more ++ past) → StaysBusy ds rest past more → turns_among ds rest past more < turns_left (after ds rest past)

@@ -2,7 +2,7 @@
 use Rattle.std.specs.Prelude.{◌≡◌, ℕ, true, List, Some, None, Option, ◌≢◌}
 use Rattle.drives.specs.declared.parts.Part.{Part}
 use Rattle.drives.specs.Drives.{Drive, drive}
-use Rattle.drives.specs.Sound.{Sound}
+use Rattle.drives.specs.Sound.{Sound, Rest}
 use Rattle.registers.specs.declared.running.Running.{Running}
 use Rattle.registers.specs.declared.running.Running.TheVariants.{Nothing, Seek, Recalibrate, Transfer, Format}
 use Rattle.controller.specs.State.{State}
@@ -41,4 +41,4 @@ pub record SameSectors (d e : Drive) : Type 0 where
 -- no call, in any order and count, alters a byte or a mark of a held unit
 abbrev pub HeldUnitsStay : Type 0
 HeldUnitsStay =
-    (ds : List Drive) → Sound ds → (u : ℕ) → (drive ds u).held ≡ true → (calls : List Call) → SameSectors (drive ds u) (drive (after ds calls).drives u)
+    (ds : List Drive) (rest : Rest) → Sound ds → (u : ℕ) → (drive ds u).held ≡ true → (calls : List Call) → SameSectors (drive ds u) (drive (after ds rest calls).drives u)
