@@ -1,14 +1,12 @@
 -- What a controller is, to its contracts: its drives, the bytes in its buffer, the memory that the drives do not name, and
 -- its registers.
-use Rattle.std.specs.Prelude.{ℕ, false, List, [], None}
+use Rattle.std.specs.Prelude.{ℕ, false, List, [], None, Option}
 use Rattle.drives.specs.declared.string.DriveString.{Ghosts}
 use Rattle.drives.specs.Drives.{Drive}
 use Rattle.drives.specs.Sound.{Rest}
 use Rattle.registers.specs.declared.running.Running.{Running}
-use Rattle.registers.specs.declared.running.Running.TheVariants.{Nothing}
 use Rattle.registers.specs.declared.status.Flags.{Flags}
 use Rattle.registers.specs.declared.units.UnitRecords.{UnitRecords}
-use Rattle.registers.specs.Buffers.{held}
 use Rattle.registers.specs.Records.{all_zero}
 use Rattle.registers.specs.Requests.{no_flags}
 use Rattle.transfers.specs.Steps.{Path}
@@ -24,7 +22,7 @@ pub record State : Type 0 where
 -- what a controller shows, by what its string of drives means
 abbrev pub seen : {S : Type 0} → Ghosts S → Controller S → State
 seen g c =
-    record { drives = g.meaning c.path.string; buffer = held c.path.buffer; rest = g.rest c.path.string; registers = c.registers }
+    record { drives = g.meaning c.path.string; buffer = c.path.buffer; rest = g.rest c.path.string; registers = c.registers }
 
 -- a fresh controller: nothing runs, nothing is set, every PCN is 0
 abbrev pub fresh : List Drive → Rest → State
@@ -33,7 +31,7 @@ fresh ds rest =
       drives = ds;
       buffer = [];
       rest = rest;
-      registers = record { running = Nothing; flags = no_flags; setting = None; units = all_zero; results = false };
+      registers = record { running = None; flags = no_flags; setting = None; units = all_zero; results = false };
     }
 
 -- what a turn of a transfer works on
@@ -50,7 +48,7 @@ with_buffer bytes s = record s { buffer = bytes }
 abbrev pub with_path : Path → State → State
 with_path p s = record s { drives = p.drives; buffer = p.buffer; rest = p.rest }
 
-abbrev pub with_running : Running → State → State
+abbrev pub with_running : Option Running → State → State
 with_running r s = record s { registers = record s.registers { running = r } }
 
 abbrev pub with_flags : Flags → State → State

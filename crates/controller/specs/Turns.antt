@@ -1,5 +1,5 @@
 -- What a turn does.
-use Rattle.std.specs.Prelude.{ℕ, ◌+◌, cond, not, ◌==◌, nat_le, nat_lt}
+use Rattle.std.specs.Prelude.{ℕ, ◌+◌, cond, not, Some, None, Option, ◌==◌, nat_le, nat_lt}
 use Rattle.std.specs.declared.ops.ControlFlow.TheVariants.{Continue, Break}
 use Rattle.drives.specs.declared.numbers.PhysicalCylinder.{PhysicalCylinder}
 use Rattle.drives.specs.declared.parts.Direction.{Direction}
@@ -42,15 +42,15 @@ recalibrate_turn unit pulses s =
     cond (not (is_ready unit s.drives)) (seek_ended NotReady unit s)
     (cond ((drive s.drives unit).cylinder == 0) (seek_ended Reached unit s)
     (cond (nat_le 1023 pulses) (seek_ended EquipmentCheck unit s)
-    (with_running (running.Recalibrate unit (pulses + 1)) (with_drives (changed s.drives unit (pulsed Outward)) s))))
+    (with_running (Some (running.Recalibrate unit (pulses + 1))) (with_drives (changed s.drives unit (pulsed Outward)) s))))
 
 -- after a turn a transfer or a Format goes on, or it ends
 abbrev pub transfer_follows : Outcome Transfer → State → State
-transfer_follows (Continue t) s = with_running (running.Transfer t) s
+transfer_follows (Continue t) s = with_running (Some (running.Transfer t)) s
 transfer_follows (Break (end, t)) s = transfer_ended end t.numbers s
 
 abbrev pub format_follows : Outcome Format → State → State
-format_follows (Continue f) s = with_running (running.Format f) s
+format_follows (Continue f) s = with_running (Some (running.Format f)) s
 format_follows (Break (end, f)) s = format_ended end f.count s
 
 abbrev pub transfer_done : Step Transfer → State → State
@@ -59,12 +59,12 @@ transfer_done (outcome, path) s = transfer_follows outcome (with_path path s)
 abbrev pub format_done : Step Format → State → State
 format_done (outcome, path) s = format_follows outcome (with_path path s)
 
-abbrev pub turn_of : Running → State → State
-turn_of running.Nothing s = s
-turn_of (running.Seek unit target) s = seek_turn unit target s
-turn_of (running.Recalibrate unit pulses) s = recalibrate_turn unit pulses s
-turn_of (running.Transfer t) s = transfer_done (transfer_turn t (path_of s)) s
-turn_of (running.Format f) s = format_done (format_turn f (path_of s)) s
+abbrev pub turn_of : Option Running → State → State
+turn_of None s = s
+turn_of (Some (running.Seek unit target)) s = seek_turn unit target s
+turn_of (Some (running.Recalibrate unit pulses)) s = recalibrate_turn unit pulses s
+turn_of (Some (running.Transfer t)) s = transfer_done (transfer_turn t (path_of s)) s
+turn_of (Some (running.Format f)) s = format_done (format_turn f (path_of s)) s
 
 -- one step of the running command; none where none runs
 abbrev pub turned : State → State

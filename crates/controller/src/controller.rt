@@ -12,7 +12,7 @@ use transfers::path::DataPath;
 // What the controller keeps besides its buffer and its string.
 #[derive(Clone, Copy)]
 pub struct Registers {
-    pub running: Running,
+    pub running: Option<Running>,
     pub flags: Flags,
     pub setting: Option<Setting>,
     pub units: UnitRecords,

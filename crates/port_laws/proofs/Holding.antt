@@ -1,5 +1,5 @@
 -- No call alters a byte or a mark of a held unit.
-use Rattle.std.proofs.Common.{◌≡◌, ◌≢◌, ℕ, zero, suc, Bool, true, false, not, ◌&&◌, ◌⊎◌, List, [], ◌∷◌, length, is_some, Some, sym, refl, ap, ◌∙◌, subst, inl, inr, ⊎_elim, arith}
+use Rattle.std.proofs.Common.{◌≡◌, ◌≢◌, ℕ, zero, suc, Bool, true, false, not, ◌&&◌, ◌⊎◌, List, [], ◌∷◌, length, Some, None, Option, sym, refl, ap, ◌∙◌, subst, inl, inr, ⊎_elim, arith}
 use Rattle.std.proofs.lemmas.Bool.{cases_eq, cases_Bool, not-false}
 use Rattle.std.proofs.lemmas.Grind.{common_steps}
 use Rattle.std.specs.declared.ops.ControlFlow.TheVariants.{Continue, Break}
@@ -10,28 +10,25 @@ use Rattle.drives.specs.declared.parts.Line.TheVariants.{Ready, Protect, Fault}
 use Rattle.drives.specs.Drives.{Drive, drive}
 use Rattle.drives.specs.Changes.{changed, pulsed, with_cylinder, with_line}
 use Rattle.drives.specs.Sound.{SoundDrive, Rest}
-use Rattle.registers.specs.declared.command.Command.{Command}
 use Rattle.registers.specs.declared.running.Stage.TheVariants.{Search}
 use Rattle.registers.specs.declared.running.FormatStage.TheVariants.{Opening}
 use Rattle.registers.specs.declared.running.Running.{Running}
 use Rattle.registers.specs.declared.running.Running.TheVariants as running
 use Rattle.registers.specs.declared.running.Transfer.{Transfer}
 use Rattle.registers.specs.declared.running.Format.{Format}
-use Rattle.registers.specs.Commands.{decided}
 use Rattle.registers.specs.Kinds.{writes}
-use Rattle.registers.specs.Requests.{is_busy}
 use Rattle.transfers.specs.Steps.{Path, Outcome}
 use Rattle.transfers.specs.Transfers.{transfer_turn}
 use Rattle.transfers.specs.Formats.{format_turn}
 use Rattle.controller.specs.State.{State, fresh, path_of, with_path}
-use Rattle.controller.specs.Starting.{parameters, commanded, command_step}
+use Rattle.controller.specs.Starting.{command_step}
 use Rattle.controller.specs.Turns.{turn_of, seek_turn, recalibrate_turn, transfer_follows, format_follows}
 use Rattle.controller.specs.Calls.{write_step, read_step, cut_by, line_step}
 use Rattle.runs.specs.declared.call.Call.{Call}
 use Rattle.runs.specs.declared.call.Call.TheVariants.{WriteData, ReadData, WriteCommand, Turn, TerminalCount, SetLine, Reset}
 use Rattle.runs.specs.Calls.{call_step, after}
 use Rattle.port_laws.specs.OfUnits.{SameSectors, HeldUnitsStay, unit_in}
-use Rattle.port_laws.proofs.Units.{turn_other, command_untouched}
+use Rattle.port_laws.proofs.Units.{turn_other}
 
 -- a unit that is held and protected, and shows what another showed
 pub record Guarded (d e : Drive) : Type 0 where
@@ -81,7 +78,7 @@ transfer_keeps : (t : Transfer) (p : Path) → Keeps t (transfer_turn t p).0
 transfer_keeps t p = grind (arith, common_steps)
 
 -- a reader touches no drive
-reader_quiet : (t : Transfer) (s : State) → writes t.kind ≡ false → (turn_of (running.Transfer t) s).drives ≡ s.drives
+reader_quiet : (t : Transfer) (s : State) → writes t.kind ≡ false → (turn_of (Some (running.Transfer t)) s).drives ≡ s.drives
 reader_quiet t s r = grind (arith, common_steps)
 
 -- a Format that goes on is for the same unit
@@ -93,18 +90,22 @@ format_keeps : (f : Format) (p : Path) → KeepsUnit f (format_turn f p).0
 format_keeps f p = grind (arith, common_steps)
 
 -- a writer on the unit has not made its first turn
-abbrev Clear : ℕ → Running → Type 0
-Clear u running.Nothing = Unit {0}
-Clear u (running.Seek unit target) = Unit {0}
-Clear u (running.Recalibrate unit pulses) = Unit {0}
-Clear u (running.Transfer t) = t.unit ≡ u → (writes t.kind ≡ false) ⊎ (t.stage ≡ Search true)
-Clear u (running.Format f) = f.unit ≡ u → f.stage ≡ Opening
+abbrev Clear : ℕ → Option Running → Type 0
+Clear u (Some (running.Transfer t)) = t.unit ≡ u → (writes t.kind ≡ false) ⊎ (t.stage ≡ Search true)
+Clear u (Some (running.Format f)) = f.unit ≡ u → f.stage ≡ Opening
+Clear u other = Unit {0}
 
 other_clear : (u : ℕ) (t : Transfer) (o : Outcome Transfer) (s : State) → Keeps t o → (t.unit ≢ u) ⊎ (writes t.kind ≡ false) → Clear u (transfer_follows o s).registers.running
 other_clear u t o s k w = grind (arith, common_steps)
 
 other_format_clear : (u : ℕ) (f : Format) (o : Outcome Format) (s : State) → KeepsUnit f o → f.unit ≢ u → Clear u (format_follows o s).registers.running
 other_format_clear u f o s k n = grind (arith, common_steps)
+
+command_quiet : (byte : ℕ) (s : State) → (command_step byte s).1.drives ≡ s.drives
+command_quiet byte s = grind (arith, common_steps)
+
+command_clear : (u byte : ℕ) (s : State) → Clear u s.registers.running → Clear u (command_step byte s).1.registers.running
+command_clear u byte s c = grind (arith, common_steps)
 
 module _ (u : ℕ) (d : Drive) where
   pub record Safe (s : State) : Type 0 where
@@ -114,7 +115,7 @@ module _ (u : ℕ) (d : Drive) where
   quiet : (s : State) (ds : List Drive) → Safe s → ds ≡ s.drives → Guarded d (drive ds u)
   quiet s ds k e = subst (λ ds. Guarded d (drive ds u)) (sym e) k.guarded
 
-  elsewhere : (r : Running) (s : State) → Safe s → unit_in r ≢ Some u → Guarded d (drive (turn_of r s).drives u)
+  elsewhere : (r : Option Running) (s : State) → Safe s → unit_in r ≢ Some u → Guarded d (drive (turn_of r s).drives u)
   elsewhere r s k n = subst (Guarded d) (sym (turn_other r s u n)) k.guarded
 
   -- ---- turns
@@ -122,80 +123,58 @@ module _ (u : ℕ) (d : Drive) where
   pulsed_guarded : (ds : List Drive) (v : ℕ) (direction : Direction) → Guarded d (drive ds u) → Guarded d (drive (changed ds v (pulsed direction)) u)
   pulsed_guarded ds v direction g = through (Guarded d) (pulsed direction) (pulse_guards d direction) ds v u g
 
-  seek_safe : (unit : ℕ) (target : PhysicalCylinder) (s : State) → Safe s → s.registers.running ≡ running.Seek unit target → Safe (seek_turn unit target s)
+  seek_safe : (unit : ℕ) (target : PhysicalCylinder) (s : State) → Safe s → s.registers.running ≡ Some (running.Seek unit target) → Safe (seek_turn unit target s)
   seek_safe unit target s k e = grind (arith, common_steps, pulsed_guarded)
 
   recalibrate_safe : (unit pulses : ℕ) (s : State) → Safe s → Safe (recalibrate_turn unit pulses s)
   recalibrate_safe unit pulses s k = grind (arith, common_steps, pulsed_guarded)
 
   -- the first turn under write protect ends the command
-  refused : (t : Transfer) (s : State) → Safe s → t.unit ≡ u → writes t.kind ≡ true → t.stage ≡ Search true → Safe (turn_of (running.Transfer t) s)
+  refused : (t : Transfer) (s : State) → Safe s → t.unit ≡ u → writes t.kind ≡ true → t.stage ≡ Search true → Safe (turn_of (Some (running.Transfer t)) s)
   refused t s k e w f = grind (arith, common_steps)
 
-  format_refused : (f : Format) (s : State) → Safe s → f.unit ≡ u → f.stage ≡ Opening → Safe (turn_of (running.Format f) s)
+  format_refused : (f : Format) (s : State) → Safe s → f.unit ≡ u → f.stage ≡ Opening → Safe (turn_of (Some (running.Format f)) s)
   format_refused f s k e w = grind (arith, common_steps)
 
-  transfer_safe : (t : Transfer) (s : State) → Safe s → Clear u (running.Transfer t) → Safe (turn_of (running.Transfer t) s)
+  transfer_safe : (t : Transfer) (s : State) → Safe s → Clear u (Some (running.Transfer t)) → Safe (turn_of (Some (running.Transfer t)) s)
   transfer_safe t s k c =
-      let clear : (t.unit ≢ u) ⊎ (writes t.kind ≡ false) → Clear u (turn_of (running.Transfer t) s).registers.running =
+      let clear : (t.unit ≢ u) ⊎ (writes t.kind ≡ false) → Clear u (turn_of (Some (running.Transfer t)) s).registers.running =
           λ w. other_clear u t (transfer_turn t (path_of s)).0 (with_path (transfer_turn t (path_of s)).1 s) (transfer_keeps t (path_of s)) w in
-      let reading : writes t.kind ≡ false → Safe (turn_of (running.Transfer t) s) =
+      let reading : writes t.kind ≡ false → Safe (turn_of (Some (running.Transfer t)) s) =
           λ r. record { guarded = quiet s _ k (reader_quiet t s r); clear = clear (inr r) } in
       ⊎_elim (λ e. ⊎_elim reading (λ f. ⊎_elim (λ w. refused t s k e w f) reading (cases_Bool (writes t.kind))) (c e))
-      (λ n. record { guarded = elsewhere (running.Transfer t) s k (some_other t.unit u n); clear = clear (inl n) })
+      (λ n. record { guarded = elsewhere (Some (running.Transfer t)) s k (some_other t.unit u n); clear = clear (inl n) })
       (cases_eq t.unit u)
 
-  format_safe : (f : Format) (s : State) → Safe s → Clear u (running.Format f) → Safe (turn_of (running.Format f) s)
+  format_safe : (f : Format) (s : State) → Safe s → Clear u (Some (running.Format f)) → Safe (turn_of (Some (running.Format f)) s)
   format_safe f s k c =
       ⊎_elim (λ e. format_refused f s k e (c e))
       (λ n.
       record {
-        guarded = elsewhere (running.Format f) s k (some_other f.unit u n);
+        guarded = elsewhere (Some (running.Format f)) s k (some_other f.unit u n);
         clear = other_format_clear u f (format_turn f (path_of s)).0 _ (format_keeps f (path_of s)) n;
       })
       (cases_eq f.unit u)
 
-  turn_safe : (r : Running) (s : State) → s.registers.running ≡ r → Safe s → Safe (turn_of r s)
-  turn_safe running.Nothing s e k = k
-  turn_safe (running.Seek unit target) s e k = seek_safe unit target s k e
-  turn_safe (running.Recalibrate unit pulses) s e k = recalibrate_safe unit pulses s k
-  turn_safe (running.Transfer t) s e k = transfer_safe t s k (subst (Clear u) e k.clear)
-  turn_safe (running.Format f) s e k = format_safe f s k (subst (Clear u) e k.clear)
+  turn_safe : (r : Option Running) (s : State) → s.registers.running ≡ r → Safe s → Safe (turn_of r s)
+  turn_safe None s e k = k
+  turn_safe (Some (running.Seek unit target)) s e k = seek_safe unit target s k e
+  turn_safe (Some (running.Recalibrate unit pulses)) s e k = recalibrate_safe unit pulses s k
+  turn_safe (Some (running.Transfer t)) s e k = transfer_safe t s k (subst (Clear u) e k.clear)
+  turn_safe (Some (running.Format f)) s e k = format_safe f s k (subst (Clear u) e k.clear)
 
-  -- ---- the other calls
-
-  command_clear : (x : Command) (s : State) → Clear u s.registers.running → Clear u (commanded x s).1.registers.running
-  command_clear x s c = grind (arith, common_steps)
-
-  write_safe : (byte : ℕ) (s : State) → Safe s → Safe (write_step byte s).1
-  write_safe byte s k = grind (arith, common_steps)
-
-  read_safe : (s : State) → Safe s → Safe (read_step s).1
-  read_safe s k = grind (arith, common_steps)
-
-  terminal_safe : (r : Running) (s : State) → s.registers.running ≡ r → Safe s → Safe (cut_by r s).1
-  terminal_safe r s e k = grind (arith, common_steps)
+  -- ---- any call, and any list of them
 
   lined_guarded : (ds : List Drive) (v : ℕ) (line : Line) (value : Bool) → Guarded d (drive ds u) → Guarded d (drive (changed ds v (with_line line value)) u)
   lined_guarded ds v line value g = through (Guarded d) (with_line line value) (line_guards d line value) ds v u g
 
-  line_safe : (unit : ℕ) (line : Line) (value : Bool) (s : State) → Safe s → Safe (line_step unit line value s).1
-  line_safe unit line value s k = grind (arith, common_steps, lined_guarded)
-
-  command_safe : (byte : ℕ) (s : State) → Safe s → Safe (command_step byte s).1
-  command_safe byte s k =
-      let x : Command = decided byte (length (parameters s)) (is_busy s.registers.running) (is_some s.registers.setting) in
-      record { guarded = quiet s _ k (command_untouched x s); clear = command_clear x s k.clear }
-
-  -- ---- any call, and any list of them
-
   call_safe : (call : Call) (s : State) → Safe s → Safe (call_step call s).1
-  call_safe (WriteData byte) s k = write_safe byte s k
-  call_safe ReadData s k = read_safe s k
-  call_safe (WriteCommand byte) s k = command_safe byte s k
+  call_safe (WriteData byte) s k = grind (arith, common_steps)
+  call_safe ReadData s k = grind (arith, common_steps)
+  call_safe (WriteCommand byte) s k = record { guarded = quiet s _ k (command_quiet byte s); clear = command_clear u byte s k.clear }
   call_safe Turn s k = turn_safe s.registers.running s refl k
-  call_safe TerminalCount s k = terminal_safe s.registers.running s refl k
-  call_safe (SetLine unit line value) s k = line_safe unit line value s k
+  call_safe TerminalCount s k = grind (arith, common_steps)
+  call_safe (SetLine unit line value) s k = grind (arith, common_steps, lined_guarded)
   call_safe Reset s k = record { guarded = k.guarded; clear = tt }
 
   run_safe : (ds : List Drive) (rest : Rest) → Safe (fresh ds rest) → (calls : List Call) → Safe (after ds rest calls)

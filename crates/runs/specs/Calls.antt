@@ -15,7 +15,7 @@ use Rattle.runs.specs.declared.call.Call.TheVariants.{WriteData, ReadData, Write
 abbrev pub Answer : Type 0
 Answer = Result (Option ℕ) Refusal
 
--- so much of what a step gives, the state apart, is answered
+-- a step's answer, with the byte that it gives the host, if it gives one
 abbrev pub answered : {T : Type 0} → (T → Option ℕ) → Result T Refusal × State → Answer × State
 answered byte (result, s) = (result_map_both byte (λ refusal. refusal) result, s)
 

@@ -2,8 +2,7 @@
 use Rattle.std.specs.Prelude.{ℕ, ◌+◌, ◌-◌, cond, ◌||◌, List, length, take, drop, Ok, Err, ◌==◌, nat_le, nat_lt}
 use Rattle.std.specs.declared.ops.ControlFlow.TheVariants.{Continue, Break}
 use Rattle.std.specs.Result.{result_and}
-use Rattle.check_bytes.specs.Checks.{start_value}
-use Rattle.check_bytes.specs.Rules.{generator_of}
+use Rattle.check_bytes.specs.Schemes.{divider_of}
 use Rattle.drives.specs.declared.numbers.Slot.{Slot}
 use Rattle.drives.specs.declared.parts.Line.TheVariants.{Protect}
 use Rattle.drives.specs.Drives.{Drive, drive}
@@ -14,6 +13,7 @@ use Rattle.registers.specs.declared.end.End.TheVariants.{Normal, EndOfCylinder, 
 use Rattle.registers.specs.declared.running.Format.{Format}
 use Rattle.registers.specs.declared.running.FormatStage.{FormatStage}
 use Rattle.registers.specs.declared.running.FormatStage.TheVariants.{Opening, Writing}
+use Rattle.registers.specs.Settings.{id_scheme, data_scheme}
 use Rattle.transfers.specs.Tests.{Test, line_test}
 use Rattle.transfers.specs.Steps.{Path, Outcome, Step}
 
@@ -39,7 +39,7 @@ track_turn f p =
 abbrev pub slot_closed : Slot → List ℕ → Format → List Drive → List Drive
 slot_closed slot numbers f ds =
     changed ds f.unit
-    (sector_formatted (generator_of f.setting.id_rule) 16 (start_value f.setting.start 16) (generator_of f.setting.data_rule) 16 (start_value f.setting.start 16) f.head.0 slot.0 numbers f.setting.length f.pattern)
+    (sector_formatted (divider_of (id_scheme f.setting)) (divider_of (data_scheme f.setting)) f.head.0 slot.0 numbers f.setting.length f.pattern)
 
 -- SCNT has fallen to `left`, and 0 ends normally
 abbrev pub slots_left : ℕ → Slot → Format → Outcome Format

@@ -2,8 +2,7 @@
 use Rattle.std.specs.Prelude.{ℕ, ◌+◌, Bool, false, cond, not, ◌&&◌, List, [], ◌∷◌, length, Ok, Err, Some, None, Option, ◌==◌, nat_lt}
 use Rattle.std.specs.declared.ops.ControlFlow.TheVariants.{Continue, Break}
 use Rattle.std.specs.Result.{result_and}
-use Rattle.check_bytes.specs.Checks.{start_value}
-use Rattle.check_bytes.specs.Rules.{generator_of}
+use Rattle.check_bytes.specs.Schemes.{divider_of}
 use Rattle.drives.specs.declared.numbers.Slot.{Slot}
 use Rattle.drives.specs.declared.parts.Line.TheVariants.{Protect}
 use Rattle.drives.specs.declared.parts.Part.TheVariants.{Data}
@@ -25,6 +24,7 @@ use Rattle.registers.specs.declared.setting.Setting.{Setting}
 use Rattle.registers.specs.Addresses.{advanced, is_last, counted}
 use Rattle.registers.specs.Buffers.{added}
 use Rattle.registers.specs.Kinds.{hands_out, takes_bytes, writes}
+use Rattle.registers.specs.Settings.{id_scheme, data_scheme}
 use Rattle.transfers.specs.Tests.{Test, line_test}
 use Rattle.transfers.specs.Steps.{Path, Outcome, Step}
 
@@ -56,13 +56,13 @@ stopped end t = cond (hands_out t.kind) (Continue (record t { stage = Waiting en
 -- the first slot of the track PHN, from slot 0, that has the wanted sector
 abbrev pub search : Transfer → Drive → Option Slot
 search t d =
-    first_slot (wanted_at (generator_of t.setting.id_rule) 16 (start_value t.setting.start 16) d t.numbers.address t.numbers.head.0) d.shape.slots 0
+    first_slot (wanted_at (divider_of (id_scheme t.setting)) d t.numbers.address t.numbers.head.0) d.shape.slots 0
 
 -- where there is none: RRQ without any ID mark on the track, else ND, with IER if some marked ID has a wrong check
 abbrev pub not_found : Transfer → Drive → End
 not_found t d =
     cond (has_id_mark d t.numbers.head.0)
-    (NoData (has_wrong_id (generator_of t.setting.id_rule) 16 (start_value t.setting.start 16) d t.numbers.head.0))
+    (NoData (has_wrong_id (divider_of (id_scheme t.setting)) d t.numbers.head.0))
     NoIds
 
 -- Write Data opens the sector: the data mark goes to 0
@@ -137,7 +137,7 @@ sector_done t = counted_on (counted t.numbers) t
 -- the check that stands after DTL data bytes is the right one
 abbrev pub check_stands : Transfer → Slot → Drive → Bool
 check_stands t slot d =
-    is_right (field_checks (generator_of t.setting.data_rule) 16 2 (start_value t.setting.start 16) d t.numbers.head.0 slot.0 t.setting.length)
+    is_right (field_checks (divider_of (data_scheme t.setting)) d t.numbers.head.0 slot.0 t.setting.length)
 
 -- Write Data writes the check and closes the sector: the data mark goes to 1
 abbrev pub closed : Slot → Transfer → Path → Path
@@ -145,7 +145,7 @@ closed slot t p =
     record p {
       drives =
           changed p.drives t.unit
-          (sector_closed (generator_of t.setting.data_rule) 16 (start_value t.setting.start 16) t.numbers.head.0 slot.0 t.setting.length);
+          (sector_closed (divider_of (data_scheme t.setting)) t.numbers.head.0 slot.0 t.setting.length);
     }
 
 -- for the others a wrong check is DER

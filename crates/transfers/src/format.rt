@@ -5,7 +5,7 @@ ghost use Rattle.transfers.specs.Formats.{first_format_test, format_test, track_
 use crate::path::{DataPath, Outcome};
 use crate::ready::line_test;
 use drives::numbers::Slot;
-use drives::parts::{Line, Place};
+use drives::parts::Line;
 use drives::string::DriveString;
 use registers::end::End;
 use registers::running::{Format, FormatStage};
@@ -43,7 +43,7 @@ impl<S: DriveString> DataPath<S> {
     fn track_turn(&mut self, f: Format) -> Outcome<Format>
         ensures { (result, shown S.DriveString self.new) ≡ track_turn f (shown S.DriveString self.old) }
     {
-        open_track(&mut self.string, f.unit, f.head);
+        open_track(&mut self.string, f.track());
         Continue(Format {
             stage: FormatStage::Writing(Slot(0)),
             ..f
@@ -62,20 +62,13 @@ impl<S: DriveString> DataPath<S> {
         let all = self.buffer;
         let numbers = [all.get(0), all.get(1), all.get(2), all.get(3)];
         self.buffer = all.rest().rest().rest().rest();
-        let place = Place {
-            unit: f.unit,
-            head: f.head,
-            slot,
-        };
-        let setting = f.setting;
         format_sector(
             &mut self.string,
-            &setting.id_rule,
-            &setting.data_rule,
-            setting.start,
-            place,
+            &f.setting.id_scheme(),
+            &f.setting.data_scheme(),
+            f.track().at(slot),
             numbers,
-            setting.length,
+            f.setting.length,
             f.pattern,
         );
         let count = f.count.saturating_sub(1);

@@ -1,12 +1,12 @@
 ghost use Rattle.std.specs.Prelude.{◌≡◌};
 ghost use Rattle.drives.specs.Drives.{drive};
 ghost use Rattle.transfers.specs.Steps.{shown};
-ghost use Rattle.transfers.specs.Transfers.{sector_wants, first_test, turn_test, stopped, search, not_found, search_turn, byte_done, byte_read, byte_taken, byte_turn, counted_on, check_stands, check_turn, waiting_turn, transfer_turn};
+ghost use Rattle.transfers.specs.Transfers.{sector_wants, first_test, turn_test, stopped, not_found, search_turn, byte_done, byte_read, byte_taken, byte_turn, counted_on, check_turn, waiting_turn, transfer_turn};
 
 use crate::path::{DataPath, Outcome};
 use crate::ready::line_test;
 use drives::numbers::Slot;
-use drives::parts::{Line, Part, Place};
+use drives::parts::{Line, Part};
 use drives::string::DriveString;
 use registers::end::End;
 use registers::kind::Kind;
@@ -27,17 +27,6 @@ pub fn sector_wants(kind: Kind, setting: Setting) -> u16
         setting.length
     } else {
         0
-    }
-}
-
-// The place of a slot on the transfer's track.
-fn place_of(t: Transfer, slot: Slot) -> Place
-    ensures { result ≡ record { unit = t.unit; head = t.numbers.head; slot = slot } }
-{
-    Place {
-        unit: t.unit,
-        head: t.numbers.head,
-        slot,
     }
 }
 
@@ -79,26 +68,15 @@ fn stop(t: Transfer, end: End) -> Outcome<Transfer>
     }
 }
 
-fn find<S: DriveString>(string: &S, t: Transfer) -> Option<Slot>
-    ensures { result ≡ search t (drive (S.DriveString.meaning string.now) t.unit) }
-{
-    let rule = t.setting.id_rule;
-    let n = t.numbers;
-    find_sector(string, &rule, t.setting.start, t.unit, n.head, n.address)
-}
-
 // The end where the track has no such sector.
 fn not_found<S: DriveString>(string: &S, t: Transfer) -> End
     ensures { result ≡ not_found t (drive (S.DriveString.meaning string.now) t.unit) }
 {
-    let rule = t.setting.id_rule;
-    let head = t.numbers.head;
-    if has_id_mark(string, t.unit, head) {
-        let wrong_id = has_wrong_id(string, &rule, t.setting.start, t.unit, head);
-        End::NoData { wrong_id }
-    } else {
-        End::NoIds
+    if !has_id_mark(string, t.track()) {
+        return End::NoIds;
     }
+    let wrong_id = has_wrong_id(string, &t.setting.id_scheme(), t.track());
+    End::NoData { wrong_id }
 }
 
 // One byte more of the sector is done.
@@ -134,23 +112,15 @@ fn count_on(t: Transfer, numbers: Numbers) -> Outcome<Transfer>
     })
 }
 
-// Whether the check stands as it should after the data bytes.
-fn check_stands<S: DriveString>(string: &S, t: Transfer, slot: Slot) -> bool
-    ensures { result ≡ check_stands t slot (drive (S.DriveString.meaning string.now) t.unit) }
-{
-    let rule = t.setting.data_rule;
-    let place = place_of(t, slot);
-    field_check(string, &rule, t.setting.start, place, t.setting.length).is_right()
-}
-
 impl<S: DriveString> DataPath<S> {
     fn search_turn(&mut self, t: Transfer) -> Outcome<Transfer>
         ensures { (result, shown S.DriveString self.new) ≡ search_turn t (shown S.DriveString self.old) }
     {
-        let Some(slot) = find(&self.string, t) else {
+        let scheme = t.setting.id_scheme();
+        let Some(slot) = find_sector(&self.string, &scheme, t.track(), t.numbers.address) else {
             return stop(t, not_found(&self.string, t));
         };
-        let place = place_of(t, slot);
+        let place = t.track().at(slot);
         if t.kind.writes() {
             self.string.set_mark(place, Part::Data, false);
         } else if !self.string.mark(place, Part::Data) {
@@ -167,7 +137,7 @@ impl<S: DriveString> DataPath<S> {
             if self.buffer.count() >= 8 {
                 return Break((End::Overrun, t));
             }
-            let byte = self.string.byte(place_of(t, slot), Part::Data, done);
+            let byte = self.string.byte(t.track().at(slot), Part::Data, done);
             self.buffer = self.buffer.with(byte);
         }
         byte_done(t, slot, done)
@@ -186,7 +156,7 @@ impl<S: DriveString> DataPath<S> {
             return Break((End::Overrun, t));
         };
         self.string
-            .set_byte(place_of(t, slot), Part::Data, done, byte);
+            .set_byte(t.track().at(slot), Part::Data, done, byte);
         byte_done(t, slot, done)
     }
 
@@ -203,17 +173,11 @@ impl<S: DriveString> DataPath<S> {
     fn check_turn(&mut self, t: Transfer, slot: Slot) -> Outcome<Transfer>
         ensures { (result, shown S.DriveString self.new) ≡ check_turn slot t (shown S.DriveString self.old) }
     {
+        let scheme = t.setting.data_scheme();
+        let place = t.track().at(slot);
         if t.kind.writes() {
-            let rule = t.setting.data_rule;
-            let place = place_of(t, slot);
-            close_sector(
-                &mut self.string,
-                &rule,
-                t.setting.start,
-                place,
-                t.setting.length,
-            );
-        } else if !check_stands(&self.string, t, slot) {
+            close_sector(&mut self.string, &scheme, place, t.setting.length);
+        } else if !field_check(&self.string, &scheme, place, t.setting.length).is_right() {
             return stop(t, End::DataError);
         }
         count_on(t, t.numbers.counted())

@@ -1,5 +1,4 @@
 ghost use Rattle.std.specs.Prelude.{◌≡◌, length};
-ghost use Rattle.registers.specs.Buffers.{held};
 ghost use Rattle.registers.specs.Requests.{data_request, status_byte, interrupt};
 ghost use Rattle.controller.specs.State.{seen, fresh};
 ghost use Rattle.controller.specs.Starting.{command_step};
@@ -48,7 +47,7 @@ impl<S: DriveString> Controller<S> {
                 buffer: Buffer::empty(),
             },
             registers: Registers {
-                running: Running::Nothing,
+                running: None,
                 flags: Flags::none(),
                 setting: None,
                 units: UnitRecords::new(),
@@ -66,7 +65,7 @@ impl<S: DriveString> Controller<S> {
 
     // The status register.
     pub fn status(&self) -> u8
-        ensures { result ≡ status_byte self.now.registers.running self.now.registers.flags (length (held self.now.path.buffer)) }
+        ensures { result ≡ status_byte self.now.registers.running self.now.registers.flags (length self.now.path.buffer) }
     {
         status_byte(
             self.registers.running,
@@ -84,7 +83,7 @@ impl<S: DriveString> Controller<S> {
 
     // The DMA request.
     pub fn dma_request(&self) -> bool
-        ensures { result ≡ data_request self.now.registers.running (length (held self.now.path.buffer)) }
+        ensures { result ≡ data_request self.now.registers.running (length self.now.path.buffer) }
     {
         data_request(self.registers.running, self.path.buffer.count())
     }
@@ -101,14 +100,14 @@ impl<S: DriveString> Controller<S> {
     }
 
     // A byte for the running command.
-    fn give_byte(&mut self, byte: u8) -> Result<(), Refusal>
-        ensures { (result, seen S.DriveString self.new) ≡ byte_given byte (seen S.DriveString self.old) }
+    fn give_byte(&mut self, running: Running, byte: u8) -> Result<(), Refusal>
+        ensures { (result, seen S.DriveString self.new) ≡ byte_given byte running (seen S.DriveString self.old) }
     {
-        if self.registers.running.wanted() == 0 {
+        if running.wanted() == 0 {
             return Err(Refusal::NotWanted);
         }
         self.keep_byte(byte)?;
-        self.registers.running = less_wanted(self.registers.running);
+        self.registers.running = Some(less_wanted(running));
         Ok(())
     }
 
@@ -116,13 +115,12 @@ impl<S: DriveString> Controller<S> {
     pub fn write_data(&mut self, byte: u8) -> Result<(), Refusal>
         ensures { (result, seen S.DriveString self.new) ≡ write_step byte (seen S.DriveString self.old) }
     {
-        if self.registers.running.is_busy() {
-            return self.give_byte(byte);
+        if let Some(running) = self.registers.running {
+            return self.give_byte(running, byte);
         }
         if self.registers.results {
-            self.path.buffer = Buffer::empty().with(byte);
+            self.path.buffer = Buffer::empty();
             self.registers.results = false;
-            return Ok(());
         }
         self.keep_byte(byte)
     }
@@ -131,10 +129,9 @@ impl<S: DriveString> Controller<S> {
     fn is_readable(&self) -> bool
         ensures { result ≡ is_readable (seen S.DriveString self.now) }
     {
-        if self.registers.running.is_busy() {
-            self.registers.running.hands_bytes()
-        } else {
-            self.registers.results
+        match self.registers.running {
+            Some(running) => running.hands_bytes(),
+            None => self.registers.results,
         }
     }
 
@@ -155,17 +152,17 @@ impl<S: DriveString> Controller<S> {
         ensures { (result, seen S.DriveString self.new) ≡ command_step byte (seen S.DriveString self.old) }
     {
         let parameters = self.parameters();
-        let busy = self.registers.running.is_busy();
-        let specified = self.registers.setting.is_some();
-        match decide(byte, parameters.count(), busy, specified) {
+        let busy = self.registers.running.is_some();
+        match decide(byte, parameters.count(), busy, self.registers.setting)? {
             Command::Auxiliary(auxiliary) => self.do_auxiliary(auxiliary),
-            Command::Busy => return Err(Refusal::Busy),
             Command::Specify => self.make_setting(setting_of(parameters)),
             Command::SenseUnitStatus(unit) => self.sense(unit),
             Command::Recalibrate(unit) => self.begin_recalibrate(unit),
             Command::Seek(unit) => self.begin_seek(unit, parameters),
-            Command::Format(unit) => self.begin_format(unit, parameters),
-            Command::Transfer(kind, unit) => self.begin_transfer(kind, unit, parameters),
+            Command::Format(unit, setting) => self.begin_format(unit, setting, parameters),
+            Command::Transfer(kind, unit, setting) => {
+                self.begin_transfer(kind, unit, setting, parameters)
+            }
             Command::Invalid => self.begin_invalid(),
         }
         Ok(())
@@ -175,7 +172,7 @@ impl<S: DriveString> Controller<S> {
     pub fn terminal_count(&mut self) -> Result<(), Refusal>
         ensures { (result, seen S.DriveString self.new) ≡ terminal_step (seen S.DriveString self.old) }
     {
-        let Running::Transfer(t) = self.registers.running else {
+        let Some(Running::Transfer(t)) = self.registers.running else {
             return Err(Refusal::NoTransfer);
         };
         match t.kind {
@@ -183,11 +180,11 @@ impl<S: DriveString> Controller<S> {
             Kind::Read => self.path.buffer = Buffer::empty(),
             Kind::Write => (),
         }
-        self.registers.running = Running::Transfer(Transfer {
+        self.registers.running = Some(Running::Transfer(Transfer {
             wanted: 0,
             cut: true,
             ..t
-        });
+        }));
         Ok(())
     }
 

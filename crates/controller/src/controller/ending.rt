@@ -1,5 +1,4 @@
 ghost use Rattle.std.specs.Prelude.{◌≡◌};
-ghost use Rattle.registers.specs.Buffers.{held};
 ghost use Rattle.controller.specs.State.{seen};
 ghost use Rattle.controller.specs.Ending.{ended, plain_flags, end_flags, seek_ended, transfer_ended, format_ended};
 
@@ -8,7 +7,6 @@ use drives::string::DriveString;
 use registers::buffer::Buffer;
 use registers::end::{End, SeekEnd};
 use registers::numbers::Numbers;
-use registers::running::Running;
 use registers::status::Flags;
 
 // The flags of an end that has neither RRQ nor IER.
@@ -36,11 +34,11 @@ fn end_flags(end: End) -> Flags
 impl<S: DriveString> Controller<S> {
     // Ends the running command: its results replace what the buffer held.
     pub(super) fn finish(&mut self, flags: Flags, results: Buffer)
-        ensures { seen S.DriveString self.new ≡ ended flags (held results) (seen S.DriveString self.old) }
+        ensures { seen S.DriveString self.new ≡ ended flags results (seen S.DriveString self.old) }
     {
         self.path.buffer = results;
         self.registers = Registers {
-            running: Running::Nothing,
+            running: None,
             flags,
             results: true,
             ..self.registers

@@ -1,6 +1,5 @@
 ghost use Rattle.std.specs.Prelude.{◌≡◌};
 ghost use Rattle.drives.specs.Drives.{drive};
-ghost use Rattle.registers.specs.Buffers.{held};
 ghost use Rattle.controller.specs.State.{seen};
 ghost use Rattle.controller.specs.Starting.{parameters, begun, invalid, reset_done, end_cleared, buffer_cleared, auxiliary_done, setting_made, unit_status, sensed, recalibrate_begun, seek_begun, format_legal, format_begun, numbers_of, transfer_begun};
 
@@ -27,7 +26,7 @@ const LONGEST_GAP: u8 = 44;
 
 // The numbers that a transfer's parameters name.
 fn numbers_of(parameters: Buffer) -> Numbers
-    ensures { result ≡ numbers_of (held parameters) }
+    ensures { result ≡ numbers_of parameters }
 {
     Numbers {
         head: PhysicalHead(parameters.get(0)),
@@ -42,7 +41,7 @@ fn numbers_of(parameters: Buffer) -> Numbers
 
 // Whether a Format's parameters are legal.
 fn is_format(parameters: Buffer) -> bool
-    ensures { result ≡ format_legal (held parameters) }
+    ensures { result ≡ format_legal parameters }
 {
     parameters.get(1) > 0 && parameters.get(4) <= LONGEST_GAP
 }
@@ -67,7 +66,7 @@ fn unit_status<S: DriveString>(string: &S, unit: u8) -> u8
 impl<S: DriveString> Controller<S> {
     // The parameters in the buffer; results are none.
     pub(super) fn parameters(&self) -> Buffer
-        ensures { held result ≡ parameters (seen S.DriveString self.now) }
+        ensures { result ≡ parameters (seen S.DriveString self.now) }
     {
         if self.registers.results {
             Buffer::empty()
@@ -77,7 +76,7 @@ impl<S: DriveString> Controller<S> {
     }
 
     // Takes a disk command.
-    fn begin(&mut self, running: Running)
+    fn begin(&mut self, running: Option<Running>)
         ensures { seen S.DriveString self.new ≡ begun running (seen S.DriveString self.old) }
     {
         self.path.buffer = Buffer::empty();
@@ -92,7 +91,7 @@ impl<S: DriveString> Controller<S> {
     pub(super) fn begin_invalid(&mut self)
         ensures { seen S.DriveString self.new ≡ invalid (seen S.DriveString self.old) }
     {
-        self.begin(Running::Nothing);
+        self.begin(None);
         self.registers.flags = Flags {
             ended_high: true,
             ended_low: true,
@@ -104,7 +103,7 @@ impl<S: DriveString> Controller<S> {
     pub fn reset(&mut self)
         ensures { seen S.DriveString self.new ≡ reset_done (seen S.DriveString self.old) }
     {
-        self.begin(Running::Nothing);
+        self.begin(None);
         self.registers.setting = None;
     }
 
@@ -118,7 +117,7 @@ impl<S: DriveString> Controller<S> {
     fn clear_buffer(&mut self)
         ensures { seen S.DriveString self.new ≡ buffer_cleared (seen S.DriveString self.old) }
     {
-        if !self.registers.running.is_busy() {
+        if self.registers.running.is_none() {
             self.path.buffer = Buffer::empty();
         }
     }
@@ -164,56 +163,51 @@ impl<S: DriveString> Controller<S> {
     pub(super) fn begin_recalibrate(&mut self, unit: u8)
         ensures { seen S.DriveString self.new ≡ recalibrate_begun unit (seen S.DriveString self.old) }
     {
-        self.begin(Running::Recalibrate { unit, pulses: 0 });
+        self.begin(Some(Running::Recalibrate { unit, pulses: 0 }));
         self.registers.units.recall(unit);
     }
 
     pub(super) fn begin_seek(&mut self, unit: u8, parameters: Buffer)
-        ensures { seen S.DriveString self.new ≡ seek_begun unit (held parameters) (seen S.DriveString self.old) }
+        ensures { seen S.DriveString self.new ≡ seek_begun unit parameters (seen S.DriveString self.old) }
     {
-        let target = u16::from_be_bytes([parameters.get(0), parameters.get(1)]);
-        self.begin(Running::Seek {
-            unit,
-            target: PhysicalCylinder(target),
-        });
+        let target = PhysicalCylinder(u16::from_be_bytes([parameters.get(0), parameters.get(1)]));
+        self.begin(Some(Running::Seek { unit, target }));
     }
 
-    pub(super) fn begin_format(&mut self, unit: u8, parameters: Buffer)
-        ensures { seen S.DriveString self.new ≡ format_begun unit (held parameters) self.old.registers.setting (seen S.DriveString self.old) }
+    pub(super) fn begin_format(&mut self, unit: u8, setting: Setting, parameters: Buffer)
+        ensures { seen S.DriveString self.new ≡ format_begun unit setting parameters (seen S.DriveString self.old) }
     {
-        let Some(setting) = self.registers.setting else {
-            self.begin_invalid();
-            return;
-        };
         if !is_format(parameters) {
             self.begin_invalid();
             return;
         }
         let count = parameters.get(1);
-        self.begin(Running::Format(Format {
+        self.begin(Some(Running::Format(Format {
             unit,
             setting,
             head: PhysicalHead(parameters.get(0)),
             count,
             pattern: parameters.get(2),
             stage: FormatStage::Opening,
-            wanted: 4 * count as u16,
-        }));
+            wanted: 4 * u16::from(count),
+        })));
     }
 
-    pub(super) fn begin_transfer(&mut self, kind: Kind, unit: u8, parameters: Buffer)
-        ensures { seen S.DriveString self.new ≡ transfer_begun kind unit (held parameters) self.old.registers.setting (seen S.DriveString self.old) }
+    pub(super) fn begin_transfer(
+        &mut self,
+        kind: Kind,
+        unit: u8,
+        setting: Setting,
+        parameters: Buffer,
+    )
+        ensures { seen S.DriveString self.new ≡ transfer_begun kind unit setting parameters (seen S.DriveString self.old) }
     {
-        let Some(setting) = self.registers.setting else {
-            self.begin_invalid();
-            return;
-        };
         let numbers = numbers_of(parameters);
         if numbers.count == 0 {
             self.begin_invalid();
             return;
         }
-        self.begin(Running::Transfer(Transfer {
+        self.begin(Some(Running::Transfer(Transfer {
             kind,
             unit,
             setting,
@@ -221,6 +215,6 @@ impl<S: DriveString> Controller<S> {
             stage: Stage::Search { first: true },
             wanted: sector_wants(kind, setting),
             cut: false,
-        }));
+        })));
     }
 }

@@ -55,10 +55,8 @@ impl<S: DriveString> Controller<S> {
             self.end_seek(SeekEnd::EquipmentCheck, unit);
         } else {
             self.path.string.pulse(unit, Direction::Outward);
-            self.registers.running = Running::Recalibrate {
-                unit,
-                pulses: pulses + 1,
-            };
+            let pulses = pulses + 1;
+            self.registers.running = Some(Running::Recalibrate { unit, pulses });
         }
     }
 
@@ -67,15 +65,15 @@ impl<S: DriveString> Controller<S> {
         ensures { seen S.DriveString self.new ≡ turned (seen S.DriveString self.old) }
     {
         match self.registers.running {
-            Running::Nothing => (),
-            Running::Seek { unit, target } => self.seek_turn(unit, target),
-            Running::Recalibrate { unit, pulses } => self.recalibrate_turn(unit, pulses),
-            Running::Transfer(t) => match self.path.transfer_turn(t) {
-                Continue(t) => self.registers.running = Running::Transfer(t),
+            None => (),
+            Some(Running::Seek { unit, target }) => self.seek_turn(unit, target),
+            Some(Running::Recalibrate { unit, pulses }) => self.recalibrate_turn(unit, pulses),
+            Some(Running::Transfer(t)) => match self.path.transfer_turn(t) {
+                Continue(t) => self.registers.running = Some(Running::Transfer(t)),
                 Break((end, t)) => self.end_transfer(end, t.numbers),
             },
-            Running::Format(f) => match self.path.format_turn(f) {
-                Continue(f) => self.registers.running = Running::Format(f),
+            Some(Running::Format(f)) => match self.path.format_turn(f) {
+                Continue(f) => self.registers.running = Some(Running::Format(f)),
                 Break((end, f)) => self.end_format(end, f.count),
             },
         }
