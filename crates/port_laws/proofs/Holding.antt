@@ -1,5 +1,5 @@
 -- No call alters a byte or a mark of a held unit.
-use Rattle.std.proofs.Common.{◌≡◌, ◌≢◌, ℕ, zero, suc, Bool, true, false, not, ◌&&◌, ◌⊎◌, List, [], ◌∷◌, length, Some, None, Option, sym, refl, ap, ◌∙◌, subst, inl, inr, ⊎_elim, arith}
+use Rattle.std.proofs.Common.{◌≡◌, ◌≢◌, ℕ, zero, suc, Bool, true, false, not, ◌&&◌, ◌⊎◌, List, [], ◌∷◌, Some, None, Option, sym, refl, subst, inl, inr, ⊎_elim, arith}
 use Rattle.std.proofs.lemmas.Bool.{cases_eq, cases_Bool, not-false}
 use Rattle.std.proofs.lemmas.Grind.{common_steps}
 use Rattle.std.specs.declared.ops.ControlFlow.TheVariants.{Continue, Break}
@@ -23,7 +23,6 @@ use Rattle.transfers.specs.Formats.{format_turn}
 use Rattle.controller.specs.State.{State, fresh, path_of, with_path}
 use Rattle.controller.specs.Starting.{command_step}
 use Rattle.controller.specs.Turns.{turn_of, seek_turn, recalibrate_turn, transfer_follows, format_follows}
-use Rattle.controller.specs.Calls.{write_step, read_step, cut_by, line_step}
 use Rattle.runs.specs.declared.call.Call.{Call}
 use Rattle.runs.specs.declared.call.Call.TheVariants.{WriteData, ReadData, WriteCommand, Turn, TerminalCount, SetLine, Reset}
 use Rattle.runs.specs.Calls.{call_step, after}
@@ -139,9 +138,9 @@ module _ (u : ℕ) (d : Drive) where
   transfer_safe : (t : Transfer) (s : State) → Safe s → Clear u (Some (running.Transfer t)) → Safe (turn_of (Some (running.Transfer t)) s)
   transfer_safe t s k c =
       let clear : (t.unit ≢ u) ⊎ (writes t.kind ≡ false) → Clear u (turn_of (Some (running.Transfer t)) s).registers.running =
-          λ w. other_clear u t (transfer_turn t (path_of s)).0 (with_path (transfer_turn t (path_of s)).1 s) (transfer_keeps t (path_of s)) w in
+      λ w. other_clear u t (transfer_turn t (path_of s)).0 (with_path (transfer_turn t (path_of s)).1 s) (transfer_keeps t (path_of s)) w in
       let reading : writes t.kind ≡ false → Safe (turn_of (Some (running.Transfer t)) s) =
-          λ r. record { guarded = quiet s _ k (reader_quiet t s r); clear = clear (inr r) } in
+      λ r. record { guarded = quiet s _ k (reader_quiet t s r); clear = clear (inr r) } in
       ⊎_elim (λ e. ⊎_elim reading (λ f. ⊎_elim (λ w. refused t s k e w f) reading (cases_Bool (writes t.kind))) (c e))
       (λ n. record { guarded = elsewhere (Some (running.Transfer t)) s k (some_other t.unit u n); clear = clear (inl n) })
       (cases_eq t.unit u)

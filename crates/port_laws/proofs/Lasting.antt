@@ -1,5 +1,5 @@
 -- Every command ends.
-use Rattle.std.proofs.Common.{◌≡◌, ◌≢◌, ℕ, ◌+◌, ◌-◌, ◌*◌, ◌<◌, ◌≤◌, Bool, true, false, List, [], ◌∷◌, ◌++◌, length, Some, None, Option, ap, add-mul, arith, get_or-set_other, get_or, zero, suc, is_some, Ok, Err, Result, cond, not, ◌&&◌, sym, subst, ⊎_elim, ◌∙◌, refl}
+use Rattle.std.proofs.Common.{◌≡◌, ◌≢◌, ℕ, ◌+◌, ◌-◌, ◌*◌, ◌<◌, ◌≤◌, Bool, true, false, List, [], ◌∷◌, ◌++◌, length, Some, None, Option, ap, add-mul, arith, get_or, zero, suc, is_some, Ok, Err, Result, cond, not, ◌&&◌, sym, subst, ⊎_elim, refl}
 use Rattle.std.proofs.lemmas.Bool.{cases_Bool, true≢false}
 use Rattle.std.proofs.lemmas.Grind.{common_steps, elements}
 use Rattle.std.specs.declared.ops.ControlFlow.TheVariants.{Continue, Break}
@@ -15,30 +15,26 @@ use Rattle.registers.specs.declared.running.Stage.TheVariants.{Search, Bytes, Ch
 use Rattle.registers.specs.declared.running.Transfer.{Transfer}
 use Rattle.registers.specs.declared.running.Format.{Format}
 use Rattle.registers.specs.declared.setting.Setting.{Setting}
-use Rattle.registers.specs.Addresses.{advanced, counted}
+use Rattle.registers.specs.Addresses.{advanced}
 use Rattle.transfers.specs.Steps.{Path, Outcome}
 use Rattle.controller.specs.Turns.{towards, seek_turn, recalibrate_turn, transfer_follows, format_follows, turn_of}
 use Rattle.controller.specs.State.{State, fresh, path_of, with_path}
-use Rattle.controller.specs.Starting.{parameters, invalid, reset_done, auxiliary_done, setting_made, sensed, recalibrate_begun, seek_begun, format_begun, transfer_begun, unless_refused}
+use Rattle.controller.specs.Starting.{parameters, unless_refused}
 use Rattle.runs.specs.declared.call.Call.{Call}
 use Rattle.runs.specs.declared.call.Call.TheVariants.{WriteData, ReadData, WriteCommand, Turn, TerminalCount, SetLine, Reset}
 use Rattle.runs.specs.Calls.{call_step, after}
 use Rattle.drives.specs.Drives.{Drive}
 use Rattle.drives.specs.Sound.{Rest}
-use Rattle.controller.specs.Calls.{write_step, read_step, cut_by, line_step}
 use Rattle.registers.specs.declared.refusal.Refusal.{Refusal}
 use Rattle.registers.specs.declared.refusal.Refusal.TheVariants.{Busy}
 use Rattle.registers.specs.declared.command.Auxiliary.{Auxiliary}
 use Rattle.registers.specs.declared.command.Command.{Command}
 use Rattle.registers.specs.declared.command.Command.TheVariants as command
 use Rattle.registers.specs.Commands.{code_of, unit_of, disk_command, decided}
-use Rattle.registers.specs.Settings.{specified}
-use Rattle.drives.specs.declared.parts.Line.{Line}
 use Rattle.registers.specs.declared.running.Running.{Running}
 use Rattle.registers.specs.declared.running.Running.TheVariants as running
 use Rattle.drives.specs.declared.numbers.PhysicalCylinder.{PhysicalCylinder}
-use Rattle.transfers.specs.Tests.{Test}
-use Rattle.transfers.specs.Transfers.{stopped, on_search, byte_turn, byte_taken, counted_on, check_turn, stage_turn, transfer_turn}
+use Rattle.transfers.specs.Transfers.{stopped, on_search, byte_turn, counted_on, check_turn, transfer_turn}
 use Rattle.transfers.specs.Formats.{format_turn}
 use Rattle.drives.specs.declared.numbers.Slot.{Slot}
 use Rattle.registers.specs.declared.kind.Kind.{Kind}
@@ -211,6 +207,7 @@ outcome_good t p g =
   where
     waits_good : (t : Transfer) (o : Outcome Transfer) → GoodTransfer t → Waits t o → GoodOutcome o
     waits_good t o g w = grind (arith, common_steps)
+
     fewer_good : (n : ℕ) (o : Outcome Transfer) → Fewer n o → GoodOutcome o
     fewer_good n o f = grind (arith, common_steps)
 

@@ -1,15 +1,12 @@
 -- Which units a call alters.
-use Rattle.std.proofs.Common.{◌≡◌, ◌≢◌, ℕ, Some, Option, refl, ap, get_or-set_other, arith}
+use Rattle.std.proofs.Common.{◌≡◌, ◌≢◌, ℕ, Some, Option, refl, get_or-set_other, arith}
 use Rattle.std.proofs.lemmas.Grind.{common_steps}
-use Rattle.std.specs.Prelude.{Bool, List}
-use Rattle.drives.specs.declared.parts.Line.{Line}
+use Rattle.std.specs.Prelude.{List}
 use Rattle.drives.specs.Drives.{Drive, drive, absent}
 use Rattle.drives.specs.Changes.{changed}
 use Rattle.registers.specs.declared.running.Running.{Running}
 use Rattle.controller.specs.State.{State}
-use Rattle.controller.specs.Starting.{command_step}
 use Rattle.controller.specs.Turns.{turn_of}
-use Rattle.controller.specs.Calls.{write_step, read_step, cut_by, line_step}
 use Rattle.runs.specs.declared.call.Call.TheVariants.{WriteData, ReadData, WriteCommand, Turn, TerminalCount, SetLine, Reset}
 use Rattle.port_laws.specs.OfUnits.{unit_in, OtherUnitsStay}
 

@@ -1,5 +1,5 @@
 -- What any call answers, what it makes of the state, and the state after any list of calls.
-use Rattle.std.specs.Prelude.{ℕ, List, [], ◌∷◌, Ok, Err, Some, None, Option, Result}
+use Rattle.std.specs.Prelude.{ℕ, List, [], ◌∷◌, Ok, Some, None, Option, Result}
 use Rattle.std.specs.Result.{result_map_both}
 use Rattle.drives.specs.Drives.{Drive}
 use Rattle.drives.specs.Sound.{Rest}
