@@ -1,9 +1,8 @@
 -- How commands end: CB falls, CEH or CEL rises, and the results replace what the buffer held.
-use Rattle.std.specs.Prelude.{ℕ, ◌/◌, ◌%◌, Bool, true, false, not, List, [], ◌∷◌}
+use Rattle.std.specs.Prelude.{ℕ, ◌/◌, ◌%◌, Bool, true, false, not, List, [], ◌∷◌, None}
 use Rattle.registers.specs.declared.end.End.{End}
 use Rattle.registers.specs.declared.end.SeekEnd.{SeekEnd}
 use Rattle.registers.specs.declared.numbers.Numbers.{Numbers}
-use Rattle.registers.specs.declared.running.Running.TheVariants.{Nothing}
 use Rattle.registers.specs.declared.status.Flags.{Flags}
 use Rattle.registers.specs.Ends.{error_byte, is_normal, requests_reset, shows_id_error, seek_byte, seek_normal}
 use Rattle.controller.specs.State.{State}
@@ -11,11 +10,7 @@ use Rattle.controller.specs.State.{State}
 -- nothing runs any more; these flags show, and the buffer holds these results
 abbrev pub ended : Flags → List ℕ → State → State
 ended flags results s =
-    record {
-      drives = s.drives;
-      buffer = results;
-      registers = record { running = Nothing; flags = flags; setting = s.registers.setting; units = s.registers.units; results = true };
-    }
+    record s { buffer = results; registers = record s.registers { running = None; flags = flags; results = true } }
 
 -- CEH for a normal end, CEL for another
 abbrev pub plain_flags : Bool → Flags

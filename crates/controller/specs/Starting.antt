@@ -8,7 +8,6 @@ use Rattle.registers.specs.declared.command.Command.TheVariants as command
 use Rattle.registers.specs.declared.kind.Kind.{Kind}
 use Rattle.registers.specs.declared.numbers.Numbers.{Numbers}
 use Rattle.registers.specs.declared.refusal.Refusal.{Refusal}
-use Rattle.registers.specs.declared.refusal.Refusal.TheVariants.{Busy}
 use Rattle.registers.specs.declared.running.Running.{Running}
 use Rattle.registers.specs.declared.running.Running.TheVariants as running
 use Rattle.registers.specs.declared.running.Stage.TheVariants.{Search}
@@ -18,7 +17,7 @@ use Rattle.registers.specs.declared.status.Flags.{Flags}
 use Rattle.registers.specs.Bits.{weight}
 use Rattle.registers.specs.Commands.{decided}
 use Rattle.registers.specs.Records.{recalled}
-use Rattle.registers.specs.Requests.{is_busy, no_flags}
+use Rattle.registers.specs.Requests.{no_flags}
 use Rattle.registers.specs.Settings.{specified}
 use Rattle.transfers.specs.Tests.{is_present}
 use Rattle.transfers.specs.Transfers.{sector_wants}
@@ -30,39 +29,30 @@ abbrev pub parameters : State → List ℕ
 parameters s = cond s.registers.results [] s.buffer
 
 -- a disk command is taken: the buffer is empty, the other status bits are 0, and it runs
-abbrev pub begun : Running → State → State
+abbrev pub begun : Option Running → State → State
 begun r s =
-    record {
-      drives = s.drives;
-      buffer = [];
-      registers = record { running = r; flags = no_flags; setting = s.registers.setting; units = s.registers.units; results = false };
-    }
+    record s { buffer = []; registers = record s.registers { running = r; flags = no_flags; results = false } }
 
 -- an invalid one leaves CEH and CEL 1, CB 0 and the buffer empty; an earlier Specify stays in force
 abbrev pub both_ends : Flags
 both_ends = record { ended_high = true; ended_low = true; reset_request = false; id_error = false }
 
 abbrev pub invalid : State → State
-invalid s = with_flags both_ends (begun running.Nothing s)
+invalid s = with_flags both_ends (begun None s)
 
 -- the reset pin and RST: the running command ends without results; buffer, status and Specify's setting are cleared, PCN
 -- stays
 abbrev pub reset_done : State → State
 reset_done s =
-    record {
-      drives = s.drives;
-      buffer = [];
-      registers = record { running = running.Nothing; flags = no_flags; setting = None; units = s.registers.units; results = false };
-    }
+    record s { buffer = []; registers = record s.registers { running = None; flags = no_flags; setting = None; results = false } }
 
 -- CLCE clears CEH and CEL
 abbrev pub end_cleared : State → State
-end_cleared s =
-    with_flags (record { ended_high = false; ended_low = false; reset_request = s.registers.flags.reset_request; id_error = s.registers.flags.id_error }) s
+end_cleared s = with_flags (record s.registers.flags { ended_high = false; ended_low = false }) s
 
 -- CLB empties the buffer, only while CB is 0
 abbrev pub buffer_cleared : State → State
-buffer_cleared s = cond (is_busy s.registers.running) s (with_buffer [] s)
+buffer_cleared s = cond (is_some s.registers.running) s (with_buffer [] s)
 
 -- RST alone acts if it is set; the other bits combine
 abbrev pub auxiliary_done : Auxiliary → State → State
@@ -76,10 +66,9 @@ auxiliary_done a s =
 abbrev pub setting_made : Option Setting → State → State
 setting_made None s = invalid s
 setting_made (Some setting) s =
-    record {
-      drives = s.drives;
+    record s {
       buffer = [];
-      registers = record { running = running.Nothing; flags = plain_flags true; setting = Some setting; units = s.registers.units; results = true };
+      registers = record s.registers { running = None; flags = plain_flags true; setting = Some setting; results = true };
     }
 
 -- UST, bit 4 to 0: selected, seek complete (1), track 000, ready, fault
@@ -92,21 +81,20 @@ sensed unit s = ended (plain_flags true) (cond (is_present unit s.drives) (unit_
 
 -- Recalibrate sets PCN to 0 when it is accepted
 abbrev pub recalibrate_begun : ℕ → State → State
-recalibrate_begun unit s = with_units (recalled s.registers.units unit) (begun (running.Recalibrate unit 0) s)
+recalibrate_begun unit s = with_units (recalled s.registers.units unit) (begun (Some (running.Recalibrate unit 0)) s)
 
 -- Seek's parameters are PCNH, PCNL
 abbrev pub seek_begun : ℕ → List ℕ → State → State
-seek_begun unit p s = begun (running.Seek unit (record { 0 = slice_index p 0 * 256 + slice_index p 1 })) s
+seek_begun unit p s = begun (Some (running.Seek unit (record { 0 = slice_index p 0 * 256 + slice_index p 1 }))) s
 
 -- Format's parameters are PHN, SCNT (above 0), DPAT, GPL1, GPL3 (at most 44). It wants four bytes for each slot.
 abbrev pub format_legal : List ℕ → Bool
 format_legal p = nat_lt 0 (slice_index p 1) && nat_lt (slice_index p 4) 45
 
-abbrev pub format_begun : ℕ → List ℕ → Option Setting → State → State
-format_begun unit p None s = invalid s
-format_begun unit p (Some setting) s =
+abbrev pub format_begun : ℕ → Setting → List ℕ → State → State
+format_begun unit setting p s =
     cond (format_legal p)
-    (begun (running.Format (record {
+    (begun (Some (running.Format (record {
       unit = unit;
       setting = setting;
       head = record { 0 = slice_index p 0 };
@@ -114,7 +102,7 @@ format_begun unit p (Some setting) s =
       pattern = slice_index p 2;
       stage = Opening;
       wanted = 4 * slice_index p 1;
-    })) s)
+    }))) s)
     (invalid s)
 
 -- the parameters of Read Data, Check and Write Data are PHN, LCNH, LCNL, LHN, LSN, SCNT (above 0)
@@ -126,11 +114,10 @@ numbers_of p =
       count = slice_index p 5;
     }
 
-abbrev pub transfer_begun : Kind → ℕ → List ℕ → Option Setting → State → State
-transfer_begun kind unit p None s = invalid s
-transfer_begun kind unit p (Some setting) s =
+abbrev pub transfer_begun : Kind → ℕ → Setting → List ℕ → State → State
+transfer_begun kind unit setting p s =
     cond (nat_lt 0 (slice_index p 5))
-    (begun (running.Transfer (record {
+    (begun (Some (running.Transfer (record {
       kind = kind;
       unit = unit;
       setting = setting;
@@ -138,24 +125,27 @@ transfer_begun kind unit p (Some setting) s =
       stage = Search true;
       wanted = sector_wants kind setting;
       cut = false;
-    })) s)
+    }))) s)
     (invalid s)
+
+abbrev pub commanded : Command → State → State
+commanded (command.Auxiliary a) s = auxiliary_done a s
+commanded command.Specify s = setting_made (specified (parameters s)) s
+commanded (command.SenseUnitStatus unit) s = sensed unit s
+commanded (command.Recalibrate unit) s = recalibrate_begun unit s
+commanded (command.Seek unit) s = seek_begun unit (parameters s) s
+commanded (command.Format unit setting) s = format_begun unit setting (parameters s) s
+commanded (command.Transfer kind unit setting) s = transfer_begun kind unit setting (parameters s) s
+commanded command.Invalid s = invalid s
 
 abbrev pub Answer : Type 0
 Answer = Result (Unit {0}) Refusal
 
-abbrev pub commanded : Command → State → Answer × State
-commanded (command.Auxiliary a) s = (Ok tt, auxiliary_done a s)
-commanded command.Busy s = (Err Busy, s)
-commanded command.Specify s = (Ok tt, setting_made (specified (parameters s)) s)
-commanded (command.SenseUnitStatus unit) s = (Ok tt, sensed unit s)
-commanded (command.Recalibrate unit) s = (Ok tt, recalibrate_begun unit s)
-commanded (command.Seek unit) s = (Ok tt, seek_begun unit (parameters s) s)
-commanded (command.Format unit) s = (Ok tt, format_begun unit (parameters s) s.registers.setting s)
-commanded (command.Transfer kind unit) s = (Ok tt, transfer_begun kind unit (parameters s) s.registers.setting s)
-commanded command.Invalid s = (Ok tt, invalid s)
+abbrev pub unless_refused : Result Command Refusal → State → Answer × State
+unless_refused (Ok c) s = (Ok tt, commanded c s)
+unless_refused (Err refusal) s = (Err refusal, s)
 
 -- a byte written to the command register
 abbrev pub command_step : ℕ → State → Answer × State
 command_step byte s =
-    commanded (decided byte (length (parameters s)) (is_busy s.registers.running) (is_some s.registers.setting)) s
+    unless_refused (decided byte (length (parameters s)) (is_some s.registers.running) s.registers.setting) s

@@ -1,5 +1,6 @@
 -- What a turn does.
-use Rattle.std.specs.Prelude.{ℕ, ◌+◌, cond, not, ◌==◌, nat_le, nat_lt}
+use Rattle.std.specs.Prelude.{ℕ, ◌+◌, cond, not, Some, None, Option, ◌==◌, nat_le, nat_lt}
+use Rattle.std.specs.declared.ops.ControlFlow.TheVariants.{Continue, Break}
 use Rattle.drives.specs.declared.numbers.PhysicalCylinder.{PhysicalCylinder}
 use Rattle.drives.specs.declared.parts.Direction.{Direction}
 use Rattle.drives.specs.declared.parts.Direction.TheVariants.{Inward, Outward}
@@ -11,13 +12,11 @@ use Rattle.registers.specs.declared.running.Running.{Running}
 use Rattle.registers.specs.declared.running.Running.TheVariants as running
 use Rattle.registers.specs.declared.running.Transfer.{Transfer}
 use Rattle.registers.specs.Records.{believed, moved}
-use Rattle.transfers.specs.declared.outcome.Outcome.{Outcome}
-use Rattle.transfers.specs.declared.outcome.Outcome.TheVariants.{Going, Ended}
 use Rattle.transfers.specs.Tests.{is_ready}
-use Rattle.transfers.specs.Steps.{Step}
+use Rattle.transfers.specs.Steps.{Outcome, Step}
 use Rattle.transfers.specs.Transfers.{transfer_turn}
 use Rattle.transfers.specs.Formats.{format_turn}
-use Rattle.controller.specs.State.{State, with_drives, with_buffer, with_running, with_units}
+use Rattle.controller.specs.State.{State, path_of, with_drives, with_path, with_running, with_units}
 use Rattle.controller.specs.Ending.{seek_ended, transfer_ended, format_ended}
 
 -- one step pulse, and PCN follows it
@@ -43,33 +42,29 @@ recalibrate_turn unit pulses s =
     cond (not (is_ready unit s.drives)) (seek_ended NotReady unit s)
     (cond ((drive s.drives unit).cylinder == 0) (seek_ended Reached unit s)
     (cond (nat_le 1023 pulses) (seek_ended EquipmentCheck unit s)
-    (with_running (running.Recalibrate unit (pulses + 1)) (with_drives (changed s.drives unit (pulsed Outward)) s))))
+    (with_running (Some (running.Recalibrate unit (pulses + 1))) (with_drives (changed s.drives unit (pulsed Outward)) s))))
 
--- the state after a step of a transfer or a Format: it goes on as it then stands, or it ends
+-- after a turn a transfer or a Format goes on, or it ends
 abbrev pub transfer_follows : Outcome Transfer → State → State
-transfer_follows (Going t) s = with_running (running.Transfer t) s
-transfer_follows (Ended end t) s = transfer_ended end t.numbers s
+transfer_follows (Continue t) s = with_running (Some (running.Transfer t)) s
+transfer_follows (Break (end, t)) s = transfer_ended end t.numbers s
 
 abbrev pub format_follows : Outcome Format → State → State
-format_follows (Going f) s = with_running (running.Format f) s
-format_follows (Ended end f) s = format_ended end f.count s
-
--- a step's buffer and drives
-abbrev pub with_step : {T : Type 0} → Step T → State → State
-with_step step s = with_buffer step.buffer (with_drives step.drives s)
+format_follows (Continue f) s = with_running (Some (running.Format f)) s
+format_follows (Break (end, f)) s = format_ended end f.count s
 
 abbrev pub transfer_done : Step Transfer → State → State
-transfer_done step s = transfer_follows step.outcome (with_step step s)
+transfer_done (outcome, path) s = transfer_follows outcome (with_path path s)
 
 abbrev pub format_done : Step Format → State → State
-format_done step s = format_follows step.outcome (with_step step s)
+format_done (outcome, path) s = format_follows outcome (with_path path s)
 
-abbrev pub turn_of : Running → State → State
-turn_of running.Nothing s = s
-turn_of (running.Seek unit target) s = seek_turn unit target s
-turn_of (running.Recalibrate unit pulses) s = recalibrate_turn unit pulses s
-turn_of (running.Transfer t) s = transfer_done (transfer_turn t s.buffer s.drives) s
-turn_of (running.Format f) s = format_done (format_turn f s.buffer s.drives) s
+abbrev pub turn_of : Option Running → State → State
+turn_of None s = s
+turn_of (Some (running.Seek unit target)) s = seek_turn unit target s
+turn_of (Some (running.Recalibrate unit pulses)) s = recalibrate_turn unit pulses s
+turn_of (Some (running.Transfer t)) s = transfer_done (transfer_turn t (path_of s)) s
+turn_of (Some (running.Format f)) s = format_done (format_turn f (path_of s)) s
 
 -- one step of the running command; none where none runs
 abbrev pub turned : State → State

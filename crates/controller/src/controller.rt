@@ -3,16 +3,16 @@ mod ending;
 mod starting;
 mod turns;
 
-use registers::buffer::Buffer;
 use registers::running::Running;
 use registers::setting::Setting;
 use registers::status::Flags;
 use registers::units::UnitRecords;
+use transfers::path::DataPath;
 
 // What the controller keeps besides its buffer and its string.
 #[derive(Clone, Copy)]
 pub struct Registers {
-    pub running: Running,
+    pub running: Option<Running>,
     pub flags: Flags,
     pub setting: Option<Setting>,
     pub units: UnitRecords,
@@ -23,7 +23,6 @@ pub struct Registers {
 // The controller owns its string of drives, so that nobody else can reach it until `end` gives it back.
 #[derive(Drop)]
 pub struct Controller<S> {
-    string: S,
-    buffer: Buffer,
+    path: DataPath<S>,
     registers: Registers,
 }

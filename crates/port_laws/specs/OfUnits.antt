@@ -2,21 +2,21 @@
 use Rattle.std.specs.Prelude.{◌≡◌, ℕ, true, List, Some, None, Option, ◌≢◌}
 use Rattle.drives.specs.declared.parts.Part.{Part}
 use Rattle.drives.specs.Drives.{Drive, drive}
-use Rattle.drives.specs.Sound.{Sound}
+use Rattle.drives.specs.Sound.{Sound, Rest}
 use Rattle.registers.specs.declared.running.Running.{Running}
-use Rattle.registers.specs.declared.running.Running.TheVariants.{Nothing, Seek, Recalibrate, Transfer, Format}
+use Rattle.registers.specs.declared.running.Running.TheVariants.{Seek, Recalibrate, Transfer, Format}
 use Rattle.controller.specs.State.{State}
 use Rattle.runs.specs.declared.call.Call.{Call}
 use Rattle.runs.specs.declared.call.Call.TheVariants.{WriteData, ReadData, WriteCommand, Turn, TerminalCount, SetLine, Reset}
 use Rattle.runs.specs.Calls.{call_step, after}
 
 -- the unit of the running command
-abbrev pub unit_in : Running → Option ℕ
-unit_in Nothing = None
-unit_in (Seek unit target) = Some unit
-unit_in (Recalibrate unit pulses) = Some unit
-unit_in (Transfer t) = Some t.unit
-unit_in (Format f) = Some f.unit
+abbrev pub unit_in : Option Running → Option ℕ
+unit_in None = None
+unit_in (Some (Seek unit target)) = Some unit
+unit_in (Some (Recalibrate unit pulses)) = Some unit
+unit_in (Some (Transfer t)) = Some t.unit
+unit_in (Some (Format f)) = Some f.unit
 
 -- the one unit that a call may alter: a turn that of the running command, a line setting its own, all others none
 abbrev pub touched : Call → State → Option ℕ
@@ -41,4 +41,4 @@ pub record SameSectors (d e : Drive) : Type 0 where
 -- no call, in any order and count, alters a byte or a mark of a held unit
 abbrev pub HeldUnitsStay : Type 0
 HeldUnitsStay =
-    (ds : List Drive) → Sound ds → (u : ℕ) → (drive ds u).held ≡ true → (calls : List Call) → SameSectors (drive ds u) (drive (after ds calls).drives u)
+    (ds : List Drive) (rest : Rest) → Sound ds → (u : ℕ) → (drive ds u).held ≡ true → (calls : List Call) → SameSectors (drive ds u) (drive (after ds rest calls).drives u)

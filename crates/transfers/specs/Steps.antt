@@ -1,12 +1,26 @@
--- What a turn makes of a running transfer or Format, of the buffer, and of the drives.
+-- What a turn works on, and what it makes of it.
 use Rattle.std.specs.Prelude.{ℕ, List}
+use Rattle.std.specs.declared.ops.ControlFlow.{ControlFlow}
+use Rattle.drives.specs.declared.string.DriveString.{Ghosts}
 use Rattle.drives.specs.Drives.{Drive}
-use Rattle.transfers.specs.declared.outcome.Outcome.{Outcome}
+use Rattle.drives.specs.Sound.{Rest}
+use Rattle.registers.specs.declared.end.End.{End}
+use Rattle.transfers.specs.declared.path.DataPath.{DataPath}
 
-pub record Step (T : Type 0) : Type 0 where
-  pub outcome : Outcome T
-  pub buffer : List ℕ
+-- the drives, the bytes in the buffer between them and the host, and the memory that the drives do not name
+pub record Path : Type 0 where
   pub drives : List Drive
+  pub buffer : List ℕ
+  pub rest : Rest
 
-abbrev pub step : {T : Type 0} → Outcome T → List ℕ → List Drive → Step T
-step outcome buffer ds = record { outcome = outcome; buffer = buffer; drives = ds }
+-- what a data path shows, by what its string of drives means
+abbrev pub shown : {S : Type 0} → Ghosts S → DataPath S → Path
+shown g path = record { drives = g.meaning path.string; buffer = path.buffer; rest = g.rest path.string }
+
+-- a command goes on as it now stands, or it has ended, standing so
+abbrev pub Outcome : Type 0 → Type 0
+Outcome T = ControlFlow (End × T) T
+
+-- what a turn makes of a running transfer or Format, and of the path
+abbrev pub Step : Type 0 → Type 0
+Step T = Outcome T × Path

@@ -1,142 +1,94 @@
-ghost use Rattle.std.specs.Prelude.{◌≡◌, ◌<◌, ◌≤◌, [], ◌∷◌, length};
-ghost use Rattle.registers.specs.Buffers.{held};
-ghost use Rattle.transfers.specs.Steps.{step};
-ghost use Rattle.transfers.specs.Formats.{first_format_test, format_test, track_turn, slot_closed, slots_left, slot_taken, slot_turn, format_turn};
+ghost use Rattle.std.specs.Prelude.{◌≡◌};
+ghost use Rattle.transfers.specs.Steps.{shown};
+ghost use Rattle.transfers.specs.Formats.{first_format_test, format_test, track_turn, slot_turn, format_turn};
 
-use crate::changes::{at_slot, with_count};
-use crate::outcome::Outcome;
+use crate::path::{DataPath, Outcome};
 use crate::ready::line_test;
 use drives::numbers::Slot;
-use drives::parts::{Line, Place};
+use drives::parts::Line;
 use drives::string::DriveString;
-use registers::buffer::Buffer;
 use registers::end::End;
 use registers::running::{Format, FormatStage};
+use std::ops::ControlFlow::{Break, Continue};
 use tracks::marks::open_track;
 use tracks::sector::format_sector;
 
 // The tests of the first turn.
-fn first_format_test<S: DriveString>(string: &S, f: Format) -> Option<End>
+fn first_format_test<S: DriveString>(string: &S, f: Format) -> Result<(), End>
     ensures { result ≡ first_format_test f (S.DriveString.meaning string.now) }
 {
     let geometry = string.geometry(f.unit);
     if geometry.length < f.setting.length || f.head.0 >= geometry.heads {
-        return Some(End::EquipmentCheck);
+        return Err(End::EquipmentCheck);
     }
     if string.line(f.unit, Line::Protect) {
-        return Some(End::NotWritable);
+        return Err(End::NotWritable);
     }
-    None
+    Ok(())
 }
 
 // The first test that fails before a turn.
-fn format_test<S: DriveString>(string: &S, f: Format) -> Option<End>
+fn format_test<S: DriveString>(string: &S, f: Format) -> Result<(), End>
     ensures { result ≡ format_test f (S.DriveString.meaning string.now) }
 {
-    if let Some(end) = line_test(string, f.unit) {
-        return Some(end);
-    }
+    line_test(string, f.unit)?;
     match f.stage {
         FormatStage::Opening => first_format_test(string, f),
-        FormatStage::Writing(_) => None,
+        FormatStage::Writing(_) => Ok(()),
     }
 }
 
-// Opens all slots of the track.
-fn track_turn<S: DriveString>(string: &mut S, buffer: &mut Buffer, f: Format) -> Outcome<Format>
-    ensures state { step result (held buffer.new) (S.DriveString.meaning string.new) ≡ track_turn f (held buffer.old) (S.DriveString.meaning string.old) }
-    ensures rest { S.DriveString.rest string.new ≡ S.DriveString.rest string.old }
-{
-    open_track(string, f.unit, f.head);
-    Outcome::Going(at_slot(f, 0, f.count))
-}
-
-// Closes a slot with the numbers that the host gave.
-fn close_slot<S: DriveString>(string: &mut S, f: Format, slot: Slot, numbers: [u8; 4])
-    ensures meaning { S.DriveString.meaning string.new ≡ slot_closed slot numbers f (S.DriveString.meaning string.old) }
-    ensures rest { S.DriveString.rest string.new ≡ S.DriveString.rest string.old }
-{
-    let place = Place {
-        unit: f.unit,
-        head: f.head,
-        slot,
-    };
-    let setting = f.setting;
-    format_sector(
-        string,
-        &setting.id_rule,
-        &setting.data_rule,
-        setting.start,
-        place,
-        numbers,
-        setting.length,
-        f.pattern,
-    );
-}
-
-// After a slot, with SCNT fallen.
-fn count_slot(f: Format, slot: Slot, left: u8) -> Outcome<Format>
-    requires { slot.0 < 255 }
-    ensures { result ≡ slots_left left slot f }
-{
-    if left == 0 {
-        Outcome::Ended(End::Normal, with_count(f, left))
-    } else {
-        Outcome::Going(at_slot(f, slot.0 + 1, left))
+impl<S: DriveString> DataPath<S> {
+    // Opens all slots of the track.
+    fn track_turn(&mut self, f: Format) -> Outcome<Format>
+        ensures { (result, shown S.DriveString self.new) ≡ track_turn f (shown S.DriveString self.old) }
+    {
+        open_track(&mut self.string, f.track());
+        Continue(Format {
+            stage: FormatStage::Writing(Slot(0)),
+            ..f
+        })
     }
-}
 
-// Takes four bytes and closes the slot.
-fn take_slot<S: DriveString>(
-    string: &mut S,
-    buffer: &mut Buffer,
-    f: Format,
-    slot: Slot,
-) -> Outcome<Format>
-    requires slot_bound { slot.0 < 255 }
-    requires in_bounds { 4 ≤ length (held buffer.old) }
-    ensures state { step result (held buffer.new) (S.DriveString.meaning string.new) ≡ slot_taken slot f (held buffer.old) (S.DriveString.meaning string.old) }
-    ensures rest { S.DriveString.rest string.new ≡ S.DriveString.rest string.old }
-{
-    let all = *buffer;
-    let numbers = [all.get(0), all.get(1), all.get(2), all.get(3)];
-    close_slot(string, f, slot, numbers);
-    *buffer = all.rest().rest().rest().rest();
-    count_slot(f, slot, f.count.saturating_sub(1))
-}
+    fn slot_turn(&mut self, f: Format, slot: Slot) -> Outcome<Format>
+        ensures { (result, shown S.DriveString self.new) ≡ slot_turn slot f (shown S.DriveString self.old) }
+    {
+        if slot.0 >= self.string.geometry(f.unit).slots {
+            return Break((End::EndOfCylinder, f));
+        }
+        if self.buffer.count() < 4 {
+            return Break((End::Overrun, f));
+        }
+        let all = self.buffer;
+        let numbers = [all.get(0), all.get(1), all.get(2), all.get(3)];
+        self.buffer = all.rest().rest().rest().rest();
+        format_sector(
+            &mut self.string,
+            &f.setting.id_scheme(),
+            &f.setting.data_scheme(),
+            f.track().at(slot),
+            numbers,
+            f.setting.length,
+            f.pattern,
+        );
+        let count = f.count.saturating_sub(1);
+        if count == 0 {
+            return Break((End::Normal, Format { count, ..f }));
+        }
+        let stage = FormatStage::Writing(Slot(slot.0 + 1));
+        Continue(Format { count, stage, ..f })
+    }
 
-fn slot_turn<S: DriveString>(
-    string: &mut S,
-    buffer: &mut Buffer,
-    f: Format,
-    slot: Slot,
-) -> Outcome<Format>
-    ensures state { step result (held buffer.new) (S.DriveString.meaning string.new) ≡ slot_turn slot f (held buffer.old) (S.DriveString.meaning string.old) }
-    ensures rest { S.DriveString.rest string.new ≡ S.DriveString.rest string.old }
-{
-    if slot.0 >= string.geometry(f.unit).slots {
-        return Outcome::Ended(End::EndOfCylinder, f);
-    }
-    if buffer.count() < 4 {
-        return Outcome::Ended(End::Overrun, f);
-    }
-    take_slot(string, buffer, f, slot)
-}
-
-// One turn of Format.
-pub fn format_turn<S: DriveString>(
-    string: &mut S,
-    buffer: &mut Buffer,
-    f: Format,
-) -> Outcome<Format>
-    ensures state { step result (held buffer.new) (S.DriveString.meaning string.new) ≡ format_turn f (held buffer.old) (S.DriveString.meaning string.old) }
-    ensures rest { S.DriveString.rest string.new ≡ S.DriveString.rest string.old }
-{
-    if let Some(end) = format_test(string, f) {
-        return Outcome::Ended(end, f);
-    }
-    match f.stage {
-        FormatStage::Opening => track_turn(string, buffer, f),
-        FormatStage::Writing(slot) => slot_turn(string, buffer, f, slot),
+    // One turn of Format.
+    pub fn format_turn(&mut self, f: Format) -> Outcome<Format>
+        ensures { (result, shown S.DriveString self.new) ≡ format_turn f (shown S.DriveString self.old) }
+    {
+        if let Err(end) = format_test(&self.string, f) {
+            return Break((end, f));
+        }
+        match f.stage {
+            FormatStage::Opening => self.track_turn(f),
+            FormatStage::Writing(slot) => self.slot_turn(f, slot),
+        }
     }
 }

@@ -2,8 +2,7 @@
 // and whether the command goes on.
 #![tactic(auto)]
 
-mod changes;
 pub mod format;
-pub mod outcome;
+pub mod path;
 pub mod ready;
 pub mod transfer;

@@ -20,14 +20,14 @@ pub fn is_ready<S: DriveString>(string: &S, unit: u8) -> bool
 }
 
 // The tests on a unit's lines before every turn.
-pub fn line_test<S: DriveString>(string: &S, unit: u8) -> Option<End>
+pub fn line_test<S: DriveString>(string: &S, unit: u8) -> Result<(), End>
     ensures { result ≡ line_test unit (S.DriveString.meaning string.now) }
 {
     if !is_ready(string, unit) {
-        return Some(End::NotReady);
+        return Err(End::NotReady);
     }
     if string.line(unit, Line::Fault) {
-        return Some(End::EquipmentCheck);
+        return Err(End::EquipmentCheck);
     }
-    None
+    Ok(())
 }

@@ -1,19 +1,13 @@
-ghost use Rattle.std.specs.Prelude.{◌≡◌, if◌then◌else◌, nat_eq};
-ghost use Rattle.drives.specs.declared.parts.Part.TheVariants.{Data};
+ghost use Rattle.std.specs.Prelude.{◌≡◌};
 ghost use Rattle.drives.specs.Drives.{drive};
-ghost use Rattle.drives.specs.Changes.{changed, with_byte};
-ghost use Rattle.registers.specs.Buffers.{held};
-ghost use Rattle.transfers.specs.declared.outcome.Outcome.TheVariants.{Going, Ended};
-ghost use Rattle.transfers.specs.Steps.{step};
-ghost use Rattle.transfers.specs.Transfers.{sector_wants, first_test, turn_test, stopped, search, not_found, found, opened, search_turn, byte_done, byte_read, byte_put, byte_taken, byte_turn, counted_on, check_stands, closed, check_turn, waiting_turn, stage_turn, transfer_turn};
+ghost use Rattle.transfers.specs.Steps.{shown};
+ghost use Rattle.transfers.specs.Transfers.{sector_wants, first_test, turn_test, stopped, not_found, search_turn, byte_done, byte_read, byte_taken, byte_turn, counted_on, check_turn, waiting_turn, transfer_turn};
 
-use crate::changes::{onward, place_of, with_numbers, with_stage};
-use crate::outcome::Outcome;
+use crate::path::{DataPath, Outcome};
 use crate::ready::line_test;
 use drives::numbers::Slot;
 use drives::parts::{Line, Part};
 use drives::string::DriveString;
-use registers::buffer::Buffer;
 use registers::end::End;
 use registers::kind::Kind;
 use registers::numbers::Numbers;
@@ -21,6 +15,7 @@ use registers::running::{Stage, Transfer};
 use registers::setting::Setting;
 use sectors::field::field_check;
 use sectors::search::find_sector;
+use std::ops::ControlFlow::{Break, Continue};
 use tracks::marks::{has_id_mark, has_wrong_id};
 use tracks::sector::close_sector;
 
@@ -36,28 +31,26 @@ pub fn sector_wants(kind: Kind, setting: Setting) -> u16
 }
 
 // The tests of the first turn.
-fn first_test<S: DriveString>(string: &S, t: Transfer) -> Option<End>
+fn first_test<S: DriveString>(string: &S, t: Transfer) -> Result<(), End>
     ensures { result ≡ first_test t (S.DriveString.meaning string.now) }
 {
     if string.geometry(t.unit).length < t.setting.length {
-        return Some(End::EquipmentCheck);
+        return Err(End::EquipmentCheck);
     }
     if t.kind.writes() && string.line(t.unit, Line::Protect) {
-        return Some(End::NotWritable);
+        return Err(End::NotWritable);
     }
-    None
+    Ok(())
 }
 
 // The first test that fails before a turn.
-fn turn_test<S: DriveString>(string: &S, t: Transfer) -> Option<End>
+fn turn_test<S: DriveString>(string: &S, t: Transfer) -> Result<(), End>
     ensures { result ≡ turn_test t (S.DriveString.meaning string.now) }
 {
-    if let Some(end) = line_test(string, t.unit) {
-        return Some(end);
-    }
+    line_test(string, t.unit)?;
     match t.stage {
         Stage::Search { first: true } => first_test(string, t),
-        _ => None,
+        _ => Ok(()),
     }
 }
 
@@ -66,157 +59,37 @@ fn stop(t: Transfer, end: End) -> Outcome<Transfer>
     ensures { result ≡ stopped end t }
 {
     if t.kind.hands_out() {
-        Outcome::Going(with_stage(t, Stage::Waiting(end)))
+        Continue(Transfer {
+            stage: Stage::Waiting(end),
+            ..t
+        })
     } else {
-        Outcome::Ended(end, t)
+        Break((end, t))
     }
-}
-
-fn find<S: DriveString>(string: &S, t: Transfer) -> Option<Slot>
-    ensures { result ≡ search t (drive (S.DriveString.meaning string.now) t.unit) }
-{
-    let rule = t.setting.id_rule;
-    let n = t.numbers;
-    find_sector(string, &rule, t.setting.start, t.unit, n.head, n.address)
 }
 
 // The end where the track has no such sector.
 fn not_found<S: DriveString>(string: &S, t: Transfer) -> End
     ensures { result ≡ not_found t (drive (S.DriveString.meaning string.now) t.unit) }
 {
-    let rule = t.setting.id_rule;
-    let head = t.numbers.head;
-    if has_id_mark(string, t.unit, head) {
-        let wrong_id = has_wrong_id(string, &rule, t.setting.start, t.unit, head);
-        End::NoData { wrong_id }
-    } else {
-        End::NoIds
+    if !has_id_mark(string, t.track()) {
+        return End::NoIds;
     }
-}
-
-// What follows where a sector is found.
-fn found<S: DriveString>(string: &S, t: Transfer, slot: Slot) -> Outcome<Transfer>
-    ensures { result ≡ found slot t (drive (S.DriveString.meaning string.now) t.unit) }
-{
-    if t.kind.writes() || string.mark(place_of(t, slot), Part::Data) {
-        Outcome::Going(with_stage(t, Stage::Bytes { slot, done: 0 }))
-    } else {
-        stop(t, End::MissingMark)
-    }
-}
-
-// Opens the sector, if the transfer writes.
-fn open<S: DriveString>(string: &mut S, t: Transfer, slot: Slot)
-    ensures meaning { S.DriveString.meaning string.new ≡ opened slot t (S.DriveString.meaning string.old) }
-    ensures rest { S.DriveString.rest string.new ≡ S.DriveString.rest string.old }
-{
-    if t.kind.writes() {
-        string.set_mark(place_of(t, slot), Part::Data, false);
-    }
-}
-
-fn search_turn<S: DriveString>(
-    string: &mut S,
-    buffer: &mut Buffer,
-    t: Transfer,
-) -> Outcome<Transfer>
-    ensures state { step result (held buffer.new) (S.DriveString.meaning string.new) ≡ search_turn t (held buffer.old) (S.DriveString.meaning string.old) }
-    ensures rest { S.DriveString.rest string.new ≡ S.DriveString.rest string.old }
-{
-    let Some(slot) = find(string, t) else {
-        return stop(t, not_found(string, t));
-    };
-    let outcome = found(string, t, slot);
-    open(string, t, slot);
-    outcome
+    let wrong_id = has_wrong_id(string, &t.setting.id_scheme(), t.track());
+    End::NoData { wrong_id }
 }
 
 // One byte more of the sector is done.
 fn byte_done(t: Transfer, slot: Slot, done: u16) -> Outcome<Transfer>
     ensures { result ≡ byte_done slot done t }
 {
-    let stage = if done < t.setting.length && done + 1 < t.setting.length {
-        Stage::Bytes {
-            slot,
-            done: done + 1,
-        }
+    let done = done.saturating_add(1);
+    let stage = if done < t.setting.length {
+        Stage::Bytes { slot, done }
     } else {
         Stage::CheckBytes { slot }
     };
-    Outcome::Going(with_stage(t, stage))
-}
-
-fn read_byte<S: DriveString>(
-    string: &mut S,
-    buffer: &mut Buffer,
-    t: Transfer,
-    slot: Slot,
-    done: u16,
-) -> Outcome<Transfer>
-    ensures state { step result (held buffer.new) (S.DriveString.meaning string.new) ≡ byte_read slot done t (held buffer.old) (S.DriveString.meaning string.old) }
-    ensures rest { S.DriveString.rest string.new ≡ S.DriveString.rest string.old }
-{
-    if t.cut {
-        return byte_done(t, slot, done);
-    }
-    if buffer.count() >= 8 {
-        return Outcome::Ended(End::Overrun, t);
-    }
-    *buffer = buffer.with(string.byte(place_of(t, slot), Part::Data, done));
-    byte_done(t, slot, done)
-}
-
-fn put_byte<S: DriveString>(
-    string: &mut S,
-    t: Transfer,
-    slot: Slot,
-    done: u16,
-    byte: u8,
-) -> Outcome<Transfer>
-    ensures outcome { result ≡ byte_done slot done t }
-    ensures meaning { S.DriveString.meaning string.new ≡ changed (S.DriveString.meaning string.old) t.unit (with_byte Data t.numbers.head.0 slot.0 done byte) }
-    ensures rest { S.DriveString.rest string.new ≡ S.DriveString.rest string.old }
-{
-    string.set_byte(place_of(t, slot), Part::Data, done, byte);
-    byte_done(t, slot, done)
-}
-
-fn take_byte<S: DriveString>(
-    string: &mut S,
-    buffer: &mut Buffer,
-    t: Transfer,
-    slot: Slot,
-    done: u16,
-) -> Outcome<Transfer>
-    ensures state { step result (held buffer.new) (S.DriveString.meaning string.new) ≡ byte_taken slot done t (held buffer.old) (S.DriveString.meaning string.old) }
-    ensures rest { S.DriveString.rest string.new ≡ S.DriveString.rest string.old }
-{
-    if buffer.count() > 0 {
-        let byte = buffer.get(0);
-        *buffer = buffer.rest();
-        put_byte(string, t, slot, done, byte)
-    } else if t.cut {
-        put_byte(string, t, slot, done, 0)
-    } else {
-        Outcome::Ended(End::Overrun, t)
-    }
-}
-
-fn byte_turn<S: DriveString>(
-    string: &mut S,
-    buffer: &mut Buffer,
-    t: Transfer,
-    slot: Slot,
-    done: u16,
-) -> Outcome<Transfer>
-    ensures state { step result (held buffer.new) (S.DriveString.meaning string.new) ≡ byte_turn t.kind slot done t (held buffer.old) (S.DriveString.meaning string.old) }
-    ensures rest { S.DriveString.rest string.new ≡ S.DriveString.rest string.old }
-{
-    match t.kind {
-        Kind::Read => read_byte(string, buffer, t, slot, done),
-        Kind::Check => byte_done(t, slot, done),
-        Kind::Write => take_byte(string, buffer, t, slot, done),
-    }
+    Continue(Transfer { stage, ..t })
 }
 
 // After a sector's check, with SCNT fallen.
@@ -224,84 +97,115 @@ fn count_on(t: Transfer, numbers: Numbers) -> Outcome<Transfer>
     ensures { result ≡ counted_on numbers t }
 {
     if numbers.is_last(t.setting) && numbers.count != 0 {
-        return stop(with_numbers(t, numbers), End::EndOfCylinder);
+        return stop(Transfer { numbers, ..t }, End::EndOfCylinder);
     }
-    let next = numbers.advanced(t.setting);
+    let numbers = numbers.advanced(t.setting);
     if numbers.count == 0 {
-        stop(with_numbers(t, next), End::Normal)
-    } else {
-        Outcome::Going(onward(t, next))
+        return stop(Transfer { numbers, ..t }, End::Normal);
     }
+    Continue(Transfer {
+        numbers,
+        stage: Stage::Search { first: false },
+        wanted: sector_wants(t.kind, t.setting),
+        cut: false,
+        ..t
+    })
 }
 
-// Whether the check stands as it should after the data bytes.
-fn check_stands<S: DriveString>(string: &S, t: Transfer, slot: Slot) -> bool
-    ensures { result ≡ check_stands t slot (drive (S.DriveString.meaning string.now) t.unit) }
-{
-    let rule = t.setting.data_rule;
-    let place = place_of(t, slot);
-    field_check(string, &rule, t.setting.start, place, t.setting.length).is_right()
-}
-
-// Writes the check and raises the data mark.
-fn close<S: DriveString>(string: &mut S, t: Transfer, slot: Slot)
-    ensures meaning { S.DriveString.meaning string.new ≡ closed slot t (S.DriveString.meaning string.old) }
-    ensures rest { S.DriveString.rest string.new ≡ S.DriveString.rest string.old }
-{
-    let rule = t.setting.data_rule;
-    close_sector(
-        string,
-        &rule,
-        t.setting.start,
-        place_of(t, slot),
-        t.setting.length,
-    );
-}
-
-fn check_turn<S: DriveString>(
-    string: &mut S,
-    buffer: &mut Buffer,
-    t: Transfer,
-    slot: Slot,
-) -> Outcome<Transfer>
-    ensures state { step result (held buffer.new) (S.DriveString.meaning string.new) ≡ check_turn slot t (held buffer.old) (S.DriveString.meaning string.old) }
-    ensures rest { S.DriveString.rest string.new ≡ S.DriveString.rest string.old }
-{
-    if t.kind.writes() {
-        close(string, t, slot);
-    } else if !check_stands(string, t, slot) {
-        return stop(t, End::DataError);
+impl<S: DriveString> DataPath<S> {
+    fn search_turn(&mut self, t: Transfer) -> Outcome<Transfer>
+        ensures { (result, shown S.DriveString self.new) ≡ search_turn t (shown S.DriveString self.old) }
+    {
+        let scheme = t.setting.id_scheme();
+        let Some(slot) = find_sector(&self.string, &scheme, t.track(), t.numbers.address) else {
+            return stop(t, not_found(&self.string, t));
+        };
+        let place = t.track().at(slot);
+        if t.kind.writes() {
+            self.string.set_mark(place, Part::Data, false);
+        } else if !self.string.mark(place, Part::Data) {
+            return stop(t, End::MissingMark);
+        }
+        let stage = Stage::Bytes { slot, done: 0 };
+        Continue(Transfer { stage, ..t })
     }
-    count_on(t, t.numbers.counted())
-}
 
-// The first turn that finds the buffer empty makes a waiting end.
-fn waiting_turn(t: Transfer, end: End, held: u8) -> Outcome<Transfer>
-    ensures { result ≡ (if nat_eq held 0 then Ended end t else Going t) }
-{
-    if held == 0 {
-        Outcome::Ended(end, t)
-    } else {
-        Outcome::Going(t)
+    fn read_byte(&mut self, t: Transfer, slot: Slot, done: u16) -> Outcome<Transfer>
+        ensures { (result, shown S.DriveString self.new) ≡ byte_read slot done t (shown S.DriveString self.old) }
+    {
+        if !t.cut {
+            if self.buffer.count() >= 8 {
+                return Break((End::Overrun, t));
+            }
+            let byte = self.string.byte(t.track().at(slot), Part::Data, done);
+            self.buffer = self.buffer.with(byte);
+        }
+        byte_done(t, slot, done)
     }
-}
 
-// One turn of Read Data, Check or Write Data.
-pub fn transfer_turn<S: DriveString>(
-    string: &mut S,
-    buffer: &mut Buffer,
-    t: Transfer,
-) -> Outcome<Transfer>
-    ensures state { step result (held buffer.new) (S.DriveString.meaning string.new) ≡ transfer_turn t (held buffer.old) (S.DriveString.meaning string.old) }
-    ensures rest { S.DriveString.rest string.new ≡ S.DriveString.rest string.old }
-{
-    if let Some(end) = turn_test(string, t) {
-        return Outcome::Ended(end, t);
+    fn take_byte(&mut self, t: Transfer, slot: Slot, done: u16) -> Outcome<Transfer>
+        ensures { (result, shown S.DriveString self.new) ≡ byte_taken slot done t (shown S.DriveString self.old).buffer (shown S.DriveString self.old) }
+    {
+        let byte = if self.buffer.count() > 0 {
+            let byte = self.buffer.get(0);
+            self.buffer = self.buffer.rest();
+            byte
+        } else if t.cut {
+            0
+        } else {
+            return Break((End::Overrun, t));
+        };
+        self.string
+            .set_byte(t.track().at(slot), Part::Data, done, byte);
+        byte_done(t, slot, done)
     }
-    match t.stage {
-        Stage::Search { first: _ } => search_turn(string, buffer, t),
-        Stage::Bytes { slot, done } => byte_turn(string, buffer, t, slot, done),
-        Stage::CheckBytes { slot } => check_turn(string, buffer, t, slot),
-        Stage::Waiting(end) => waiting_turn(t, end, buffer.count()),
+
+    fn byte_turn(&mut self, t: Transfer, slot: Slot, done: u16) -> Outcome<Transfer>
+        ensures { (result, shown S.DriveString self.new) ≡ byte_turn t.kind slot done t (shown S.DriveString self.old) }
+    {
+        match t.kind {
+            Kind::Read => self.read_byte(t, slot, done),
+            Kind::Check => byte_done(t, slot, done),
+            Kind::Write => self.take_byte(t, slot, done),
+        }
+    }
+
+    fn check_turn(&mut self, t: Transfer, slot: Slot) -> Outcome<Transfer>
+        ensures { (result, shown S.DriveString self.new) ≡ check_turn slot t (shown S.DriveString self.old) }
+    {
+        let scheme = t.setting.data_scheme();
+        let place = t.track().at(slot);
+        if t.kind.writes() {
+            close_sector(&mut self.string, &scheme, place, t.setting.length);
+        } else if !field_check(&self.string, &scheme, place, t.setting.length).is_right() {
+            return stop(t, End::DataError);
+        }
+        count_on(t, t.numbers.counted())
+    }
+
+    // The first turn that finds the buffer empty makes a waiting end.
+    fn waiting_turn(&self, t: Transfer, end: End) -> Outcome<Transfer>
+        ensures { result ≡ waiting_turn end t (shown S.DriveString self.now).buffer }
+    {
+        if self.buffer.count() == 0 {
+            Break((end, t))
+        } else {
+            Continue(t)
+        }
+    }
+
+    // One turn of Read Data, Check or Write Data.
+    pub fn transfer_turn(&mut self, t: Transfer) -> Outcome<Transfer>
+        ensures { (result, shown S.DriveString self.new) ≡ transfer_turn t (shown S.DriveString self.old) }
+    {
+        if let Err(end) = turn_test(&self.string, t) {
+            return Break((end, t));
+        }
+        match t.stage {
+            Stage::Search { first: _ } => self.search_turn(t),
+            Stage::Bytes { slot, done } => self.byte_turn(t, slot, done),
+            Stage::CheckBytes { slot } => self.check_turn(t, slot),
+            Stage::Waiting(end) => self.waiting_turn(t, end),
+        }
     }
 }

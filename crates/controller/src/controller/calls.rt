@@ -1,10 +1,8 @@
 ghost use Rattle.std.specs.Prelude.{◌≡◌, length};
-ghost use Rattle.registers.specs.Buffers.{held};
 ghost use Rattle.registers.specs.Requests.{data_request, status_byte, interrupt};
 ghost use Rattle.controller.specs.State.{seen, fresh};
-ghost use Rattle.controller.specs.Starting.{reset_done, command_step};
-ghost use Rattle.controller.specs.Turns.{turned};
-ghost use Rattle.controller.specs.Calls.{less_wanted, byte_kept, byte_given, is_readable, cut_off, write_step, read_step, terminal_step, line_step};
+ghost use Rattle.controller.specs.Starting.{command_step};
+ghost use Rattle.controller.specs.Calls.{less_wanted, byte_kept, byte_given, is_readable, write_step, read_step, terminal_step, line_step};
 
 use crate::controller::{Controller, Registers};
 use drives::parts::Line;
@@ -17,6 +15,7 @@ use registers::running::{Format, Running, Transfer};
 use registers::specify::setting_of;
 use registers::status::{Flags, data_request, status_byte};
 use registers::units::UnitRecords;
+use transfers::path::DataPath;
 use transfers::ready::is_present;
 
 // The running command, wanting one byte fewer.
@@ -25,53 +24,30 @@ fn less_wanted(running: Running) -> Running
 {
     match running {
         Running::Transfer(t) => Running::Transfer(Transfer {
-            kind: t.kind,
-            unit: t.unit,
-            setting: t.setting,
-            numbers: t.numbers,
-            stage: t.stage,
             wanted: t.wanted.saturating_sub(1),
-            cut: t.cut,
+            ..t
         }),
         Running::Format(f) => Running::Format(Format {
-            unit: f.unit,
-            setting: f.setting,
-            head: f.head,
-            count: f.count,
-            pattern: f.pattern,
-            stage: f.stage,
             wanted: f.wanted.saturating_sub(1),
+            ..f
         }),
         _ => running,
-    }
-}
-
-// The same transfer after terminal count.
-fn cut_off(t: Transfer) -> Transfer
-    ensures { result ≡ cut_off t }
-{
-    Transfer {
-        kind: t.kind,
-        unit: t.unit,
-        setting: t.setting,
-        numbers: t.numbers,
-        stage: t.stage,
-        wanted: 0,
-        cut: true,
     }
 }
 
 impl<S: DriveString> Controller<S> {
     // A fresh controller over a string of drives.
     pub fn new(string: S) -> Controller<S>
-        ensures state { seen S.DriveString.meaning result ≡ fresh (S.DriveString.meaning string) }
-        ensures string { result.string ≡ string }
+        ensures state { seen S.DriveString result ≡ fresh (S.DriveString.meaning string) (S.DriveString.rest string) }
+        ensures string { result.path.string ≡ string }
     {
         Controller {
-            string,
-            buffer: Buffer::empty(),
+            path: DataPath {
+                string,
+                buffer: Buffer::empty(),
+            },
             registers: Registers {
-                running: Running::Nothing,
+                running: None,
                 flags: Flags::none(),
                 setting: None,
                 units: UnitRecords::new(),
@@ -82,24 +58,19 @@ impl<S: DriveString> Controller<S> {
 
     // Ends the controller and gives its string back.
     pub fn end(self) -> S
-        ensures { result ≡ self.string }
+        ensures { result ≡ self.path.string }
     {
-        let Controller {
-            string,
-            buffer: _,
-            registers: _,
-        } = self;
-        string
+        self.path.string
     }
 
     // The status register.
     pub fn status(&self) -> u8
-        ensures { result ≡ status_byte self.now.registers.running self.now.registers.flags (length (held self.now.buffer)) }
+        ensures { result ≡ status_byte self.now.registers.running self.now.registers.flags (length self.now.path.buffer) }
     {
         status_byte(
             self.registers.running,
             self.registers.flags,
-            self.buffer.count(),
+            self.path.buffer.count(),
         )
     }
 
@@ -112,146 +83,119 @@ impl<S: DriveString> Controller<S> {
 
     // The DMA request.
     pub fn dma_request(&self) -> bool
-        ensures { result ≡ data_request self.now.registers.running (length (held self.now.buffer)) }
+        ensures { result ≡ data_request self.now.registers.running (length self.now.path.buffer) }
     {
-        data_request(self.registers.running, self.buffer.count())
+        data_request(self.registers.running, self.path.buffer.count())
     }
 
     // A parameter while no command runs, and no results stand in the buffer.
     fn keep_byte(&mut self, byte: u8) -> Result<(), Refusal>
-        ensures state { (result, seen S.DriveString.meaning self.new) ≡ byte_kept byte (seen S.DriveString.meaning self.old) }
-        ensures rest { S.DriveString.rest self.new.string ≡ S.DriveString.rest self.old.string }
+        ensures { (result, seen S.DriveString self.new) ≡ byte_kept byte (seen S.DriveString self.old) }
     {
-        if self.buffer.count() >= 8 {
+        if self.path.buffer.count() >= 8 {
             return Err(Refusal::Full);
         }
-        self.buffer = self.buffer.with(byte);
+        self.path.buffer = self.path.buffer.with(byte);
         Ok(())
     }
 
     // A byte for the running command.
-    fn give_byte(&mut self, byte: u8) -> Result<(), Refusal>
-        ensures state { (result, seen S.DriveString.meaning self.new) ≡ byte_given byte (seen S.DriveString.meaning self.old) }
-        ensures rest { S.DriveString.rest self.new.string ≡ S.DriveString.rest self.old.string }
+    fn give_byte(&mut self, running: Running, byte: u8) -> Result<(), Refusal>
+        ensures { (result, seen S.DriveString self.new) ≡ byte_given byte running (seen S.DriveString self.old) }
     {
-        if self.registers.running.wanted() == 0 {
+        if running.wanted() == 0 {
             return Err(Refusal::NotWanted);
         }
-        if self.buffer.count() >= 8 {
-            return Err(Refusal::Full);
-        }
-        self.buffer = self.buffer.with(byte);
-        self.registers.running = less_wanted(self.registers.running);
+        self.keep_byte(byte)?;
+        self.registers.running = Some(less_wanted(running));
         Ok(())
     }
 
     // Writes the data register.
     pub fn write_data(&mut self, byte: u8) -> Result<(), Refusal>
-        ensures state { (result, seen S.DriveString.meaning self.new) ≡ write_step byte (seen S.DriveString.meaning self.old) }
-        ensures rest { S.DriveString.rest self.new.string ≡ S.DriveString.rest self.old.string }
+        ensures { (result, seen S.DriveString self.new) ≡ write_step byte (seen S.DriveString self.old) }
     {
-        if self.registers.running.is_busy() {
-            return self.give_byte(byte);
+        if let Some(running) = self.registers.running {
+            return self.give_byte(running, byte);
         }
         if self.registers.results {
-            self.buffer = Buffer::empty().with(byte);
+            self.path.buffer = Buffer::empty();
             self.registers.results = false;
-            return Ok(());
         }
         self.keep_byte(byte)
     }
 
     // Whether the bytes in the buffer are for the host.
     fn is_readable(&self) -> bool
-        ensures { result ≡ is_readable (seen S.DriveString.meaning self.now) }
+        ensures { result ≡ is_readable (seen S.DriveString self.now) }
     {
-        if self.registers.running.is_busy() {
-            self.registers.running.hands_bytes()
-        } else {
-            self.registers.results
+        match self.registers.running {
+            Some(running) => running.hands_bytes(),
+            None => self.registers.results,
         }
     }
 
     // Reads the data register.
     pub fn read_data(&mut self) -> Result<u8, Refusal>
-        ensures state { (result, seen S.DriveString.meaning self.new) ≡ read_step (seen S.DriveString.meaning self.old) }
-        ensures rest { S.DriveString.rest self.new.string ≡ S.DriveString.rest self.old.string }
+        ensures { (result, seen S.DriveString self.new) ≡ read_step (seen S.DriveString self.old) }
     {
-        if !self.is_readable() {
+        if !self.is_readable() || self.path.buffer.count() == 0 {
             return Err(Refusal::NothingToRead);
         }
-        if self.buffer.count() == 0 {
-            return Err(Refusal::NothingToRead);
-        }
-        let byte = self.buffer.get(0);
-        self.buffer = self.buffer.rest();
+        let byte = self.path.buffer.get(0);
+        self.path.buffer = self.path.buffer.rest();
         Ok(byte)
     }
 
     // Writes the command register.
     pub fn write_command(&mut self, byte: u8) -> Result<(), Refusal>
-        ensures state { (result, seen S.DriveString.meaning self.new) ≡ command_step byte (seen S.DriveString.meaning self.old) }
-        ensures rest { S.DriveString.rest self.new.string ≡ S.DriveString.rest self.old.string }
+        ensures { (result, seen S.DriveString self.new) ≡ command_step byte (seen S.DriveString self.old) }
     {
         let parameters = self.parameters();
-        let busy = self.registers.running.is_busy();
-        let specified = self.registers.setting.is_some();
-        match decide(byte, parameters.count(), busy, specified) {
+        let busy = self.registers.running.is_some();
+        match decide(byte, parameters.count(), busy, self.registers.setting)? {
             Command::Auxiliary(auxiliary) => self.do_auxiliary(auxiliary),
-            Command::Busy => return Err(Refusal::Busy),
             Command::Specify => self.make_setting(setting_of(parameters)),
             Command::SenseUnitStatus(unit) => self.sense(unit),
             Command::Recalibrate(unit) => self.begin_recalibrate(unit),
             Command::Seek(unit) => self.begin_seek(unit, parameters),
-            Command::Format(unit) => self.begin_format(unit, parameters),
-            Command::Transfer(kind, unit) => self.begin_transfer(kind, unit, parameters),
+            Command::Format(unit, setting) => self.begin_format(unit, setting, parameters),
+            Command::Transfer(kind, unit, setting) => {
+                self.begin_transfer(kind, unit, setting, parameters)
+            }
             Command::Invalid => self.begin_invalid(),
         }
         Ok(())
     }
 
-    // One turn: a step of the running command.
-    pub fn turn(&mut self)
-        ensures state { seen S.DriveString.meaning self.new ≡ turned (seen S.DriveString.meaning self.old) }
-        ensures rest { S.DriveString.rest self.new.string ≡ S.DriveString.rest self.old.string }
-    {
-        self.step();
-    }
-
     // Terminal count: the host wants or has no more bytes of this sector.
     pub fn terminal_count(&mut self) -> Result<(), Refusal>
-        ensures state { (result, seen S.DriveString.meaning self.new) ≡ terminal_step (seen S.DriveString.meaning self.old) }
-        ensures rest { S.DriveString.rest self.new.string ≡ S.DriveString.rest self.old.string }
+        ensures { (result, seen S.DriveString self.new) ≡ terminal_step (seen S.DriveString self.old) }
     {
-        let Running::Transfer(t) = self.registers.running else {
+        let Some(Running::Transfer(t)) = self.registers.running else {
             return Err(Refusal::NoTransfer);
         };
         match t.kind {
             Kind::Check => return Err(Refusal::NoTransfer),
-            Kind::Read => self.buffer = Buffer::empty(),
+            Kind::Read => self.path.buffer = Buffer::empty(),
             Kind::Write => (),
         }
-        self.registers.running = Running::Transfer(cut_off(t));
+        self.registers.running = Some(Running::Transfer(Transfer {
+            wanted: 0,
+            cut: true,
+            ..t
+        }));
         Ok(())
     }
 
     // Sets a line of a unit.
     pub fn set_line(&mut self, unit: u8, line: Line, value: bool) -> Result<(), Refusal>
-        ensures state { (result, seen S.DriveString.meaning self.new) ≡ line_step unit line value (seen S.DriveString.meaning self.old) }
-        ensures rest { S.DriveString.rest self.new.string ≡ S.DriveString.rest self.old.string }
+        ensures { (result, seen S.DriveString self.new) ≡ line_step unit line value (seen S.DriveString self.old) }
     {
-        if !is_present(&self.string, unit) {
+        if !is_present(&self.path.string, unit) {
             return Err(Refusal::MissingUnit);
         }
-        self.string.set_line(unit, line, value);
+        self.path.string.set_line(unit, line, value);
         Ok(())
-    }
-
-    // The reset pin.
-    pub fn reset(&mut self)
-        ensures state { seen S.DriveString.meaning self.new ≡ reset_done (seen S.DriveString.meaning self.old) }
-        ensures rest { S.DriveString.rest self.new.string ≡ S.DriveString.rest self.old.string }
-    {
-        self.clear();
     }
 }

@@ -1,8 +1,7 @@
-ghost use Rattle.std.specs.Prelude.{◌≡◌, List};
+ghost use Rattle.std.specs.Prelude.{◌≡◌};
 ghost use Rattle.drives.specs.Drives.{drive};
-ghost use Rattle.registers.specs.Buffers.{held};
 ghost use Rattle.controller.specs.State.{seen};
-ghost use Rattle.controller.specs.Starting.{parameters, begun, invalid, reset_done, end_cleared, buffer_cleared, auxiliary_done, setting_made, unit_status, sensed, recalibrate_begun, seek_begun, format_legal, format_begun, numbers_of, transfer_begun, both_ends};
+ghost use Rattle.controller.specs.Starting.{parameters, begun, invalid, reset_done, end_cleared, buffer_cleared, auxiliary_done, setting_made, unit_status, sensed, recalibrate_begun, seek_begun, format_legal, format_begun, numbers_of, transfer_begun};
 
 use crate::controller::ending::plain_flags;
 use crate::controller::{Controller, Registers};
@@ -27,12 +26,12 @@ const LONGEST_GAP: u8 = 44;
 
 // The numbers that a transfer's parameters name.
 fn numbers_of(parameters: Buffer) -> Numbers
-    ensures { result ≡ numbers_of (held parameters) }
+    ensures { result ≡ numbers_of parameters }
 {
     Numbers {
         head: PhysicalHead(parameters.get(0)),
         address: Address {
-            cylinder: LogicalCylinder(parameters.get(1) as u16 * 256 + parameters.get(2) as u16),
+            cylinder: LogicalCylinder(u16::from_be_bytes([parameters.get(1), parameters.get(2)])),
             head: LogicalHead(parameters.get(3)),
             sector: LogicalSector(parameters.get(4)),
         },
@@ -42,89 +41,92 @@ fn numbers_of(parameters: Buffer) -> Numbers
 
 // Whether a Format's parameters are legal.
 fn is_format(parameters: Buffer) -> bool
-    ensures { result ≡ format_legal (held parameters) }
+    ensures { result ≡ format_legal parameters }
 {
     parameters.get(1) > 0 && parameters.get(4) <= LONGEST_GAP
+}
+
+// UST of a unit that is there.
+fn unit_status<S: DriveString>(string: &S, unit: u8) -> u8
+    ensures { result ≡ unit_status (drive (S.DriveString.meaning string.now) unit) }
+{
+    let mut status = 0x18;
+    if string.cylinder(unit).0 == 0 {
+        status += 0x04;
+    }
+    if string.line(unit, Line::Ready) {
+        status += 0x02;
+    }
+    if string.line(unit, Line::Fault) {
+        status += 0x01;
+    }
+    status
 }
 
 impl<S: DriveString> Controller<S> {
     // The parameters in the buffer; results are none.
     pub(super) fn parameters(&self) -> Buffer
-        ensures { held result ≡ parameters (seen S.DriveString.meaning self.now) }
+        ensures { result ≡ parameters (seen S.DriveString self.now) }
     {
         if self.registers.results {
             Buffer::empty()
         } else {
-            self.buffer
+            self.path.buffer
         }
     }
 
     // Takes a disk command.
-    fn begin(&mut self, running: Running)
-        ensures state { seen S.DriveString.meaning self.new ≡ begun running (seen S.DriveString.meaning self.old) }
-        ensures rest { S.DriveString.rest self.new.string ≡ S.DriveString.rest self.old.string }
+    fn begin(&mut self, running: Option<Running>)
+        ensures { seen S.DriveString self.new ≡ begun running (seen S.DriveString self.old) }
     {
-        self.buffer = Buffer::empty();
+        self.path.buffer = Buffer::empty();
         self.registers = Registers {
             running,
             flags: Flags::none(),
-            setting: self.registers.setting,
-            units: self.registers.units,
             results: false,
+            ..self.registers
         };
     }
 
     pub(super) fn begin_invalid(&mut self)
-        ensures state { seen S.DriveString.meaning self.new ≡ invalid (seen S.DriveString.meaning self.old) }
-        ensures rest { S.DriveString.rest self.new.string ≡ S.DriveString.rest self.old.string }
+        ensures { seen S.DriveString self.new ≡ invalid (seen S.DriveString self.old) }
     {
-        self.begin(Running::Nothing);
+        self.begin(None);
         self.registers.flags = Flags {
             ended_high: true,
             ended_low: true,
-            reset_request: false,
-            id_error: false,
+            ..Flags::none()
         };
     }
 
-    // Clears all but PCN.
-    pub(super) fn clear(&mut self)
-        ensures state { seen S.DriveString.meaning self.new ≡ reset_done (seen S.DriveString.meaning self.old) }
-        ensures rest { S.DriveString.rest self.new.string ≡ S.DriveString.rest self.old.string }
+    // The reset pin: clears all but PCN.
+    pub fn reset(&mut self)
+        ensures { seen S.DriveString self.new ≡ reset_done (seen S.DriveString self.old) }
     {
-        self.buffer = Buffer::empty();
-        self.registers = Registers {
-            running: Running::Nothing,
-            flags: Flags::none(),
-            setting: None,
-            units: self.registers.units,
-            results: false,
-        };
+        self.begin(None);
+        self.registers.setting = None;
     }
 
     fn clear_end(&mut self)
-        ensures state { seen S.DriveString.meaning self.new ≡ end_cleared (seen S.DriveString.meaning self.old) }
-        ensures rest { S.DriveString.rest self.new.string ≡ S.DriveString.rest self.old.string }
+        ensures { seen S.DriveString self.new ≡ end_cleared (seen S.DriveString self.old) }
     {
         self.registers.flags.ended_high = false;
         self.registers.flags.ended_low = false;
     }
 
     fn clear_buffer(&mut self)
-        ensures state { seen S.DriveString.meaning self.new ≡ buffer_cleared (seen S.DriveString.meaning self.old) }
-        ensures rest { S.DriveString.rest self.new.string ≡ S.DriveString.rest self.old.string }
+        ensures { seen S.DriveString self.new ≡ buffer_cleared (seen S.DriveString self.old) }
     {
-        if !self.registers.running.is_busy() {
-            self.buffer = Buffer::empty();
+        if self.registers.running.is_none() {
+            self.path.buffer = Buffer::empty();
         }
     }
 
     pub(super) fn do_auxiliary(&mut self, auxiliary: Auxiliary)
-        ensures state { seen S.DriveString.meaning self.new ≡ auxiliary_done auxiliary (seen S.DriveString.meaning self.old) }
-        ensures rest { S.DriveString.rest self.new.string ≡ S.DriveString.rest self.old.string }
+        ensures { seen S.DriveString self.new ≡ auxiliary_done auxiliary (seen S.DriveString self.old) }
     {
         if auxiliary.reset {
-            self.clear();
+            self.reset();
             return;
         }
         if auxiliary.clear_buffer {
@@ -137,109 +139,75 @@ impl<S: DriveString> Controller<S> {
 
     // Specify, with what its parameters ask for.
     pub(super) fn make_setting(&mut self, setting: Option<Setting>)
-        ensures state { seen S.DriveString.meaning self.new ≡ setting_made setting (seen S.DriveString.meaning self.old) }
-        ensures rest { S.DriveString.rest self.new.string ≡ S.DriveString.rest self.old.string }
+        ensures { seen S.DriveString self.new ≡ setting_made setting (seen S.DriveString self.old) }
     {
-        let Some(setting) = setting else {
+        if setting.is_none() {
             self.begin_invalid();
             return;
-        };
+        }
         self.finish(plain_flags(true), Buffer::empty());
-        self.registers.setting = Some(setting);
-    }
-
-    // UST of a unit that is there.
-    fn unit_status(&self, unit: u8) -> u8
-        ensures { result ≡ unit_status (drive (S.DriveString.meaning self.now.string) unit) }
-    {
-        let track_zero = if self.string.cylinder(unit).0 == 0 {
-            4
-        } else {
-            0
-        };
-        let ready = if self.string.line(unit, Line::Ready) {
-            2
-        } else {
-            0
-        };
-        let fault = if self.string.line(unit, Line::Fault) {
-            1
-        } else {
-            0
-        };
-        0x18 + track_zero + ready + fault
+        self.registers.setting = setting;
     }
 
     pub(super) fn sense(&mut self, unit: u8)
-        ensures state { seen S.DriveString.meaning self.new ≡ sensed unit (seen S.DriveString.meaning self.old) }
-        ensures rest { S.DriveString.rest self.new.string ≡ S.DriveString.rest self.old.string }
+        ensures { seen S.DriveString self.new ≡ sensed unit (seen S.DriveString self.old) }
     {
-        let status = if is_present(&self.string, unit) {
-            self.unit_status(unit)
+        let status = if is_present(&self.path.string, unit) {
+            unit_status(&self.path.string, unit)
         } else {
             0
         };
-        let results = [status];
-        self.finish(plain_flags(true), Buffer::of(&results));
+        self.finish(plain_flags(true), Buffer::of(&[status]));
     }
 
     pub(super) fn begin_recalibrate(&mut self, unit: u8)
-        ensures state { seen S.DriveString.meaning self.new ≡ recalibrate_begun unit (seen S.DriveString.meaning self.old) }
-        ensures rest { S.DriveString.rest self.new.string ≡ S.DriveString.rest self.old.string }
+        ensures { seen S.DriveString self.new ≡ recalibrate_begun unit (seen S.DriveString self.old) }
     {
-        self.begin(Running::Recalibrate { unit, pulses: 0 });
+        self.begin(Some(Running::Recalibrate { unit, pulses: 0 }));
         self.registers.units.recall(unit);
     }
 
     pub(super) fn begin_seek(&mut self, unit: u8, parameters: Buffer)
-        ensures state { seen S.DriveString.meaning self.new ≡ seek_begun unit (held parameters) (seen S.DriveString.meaning self.old) }
-        ensures rest { S.DriveString.rest self.new.string ≡ S.DriveString.rest self.old.string }
+        ensures { seen S.DriveString self.new ≡ seek_begun unit parameters (seen S.DriveString self.old) }
     {
-        let target = parameters.get(0) as u16 * 256 + parameters.get(1) as u16;
-        self.begin(Running::Seek {
-            unit,
-            target: PhysicalCylinder(target),
-        });
+        let target = PhysicalCylinder(u16::from_be_bytes([parameters.get(0), parameters.get(1)]));
+        self.begin(Some(Running::Seek { unit, target }));
     }
 
-    pub(super) fn begin_format(&mut self, unit: u8, parameters: Buffer)
-        ensures state { seen S.DriveString.meaning self.new ≡ format_begun unit (held parameters) self.old.registers.setting (seen S.DriveString.meaning self.old) }
-        ensures rest { S.DriveString.rest self.new.string ≡ S.DriveString.rest self.old.string }
+    pub(super) fn begin_format(&mut self, unit: u8, setting: Setting, parameters: Buffer)
+        ensures { seen S.DriveString self.new ≡ format_begun unit setting parameters (seen S.DriveString self.old) }
     {
-        let Some(setting) = self.registers.setting else {
-            self.begin_invalid();
-            return;
-        };
         if !is_format(parameters) {
             self.begin_invalid();
             return;
         }
         let count = parameters.get(1);
-        self.begin(Running::Format(Format {
+        self.begin(Some(Running::Format(Format {
             unit,
             setting,
             head: PhysicalHead(parameters.get(0)),
             count,
             pattern: parameters.get(2),
             stage: FormatStage::Opening,
-            wanted: 4 * count as u16,
-        }));
+            wanted: 4 * u16::from(count),
+        })));
     }
 
-    pub(super) fn begin_transfer(&mut self, kind: Kind, unit: u8, parameters: Buffer)
-        ensures state { seen S.DriveString.meaning self.new ≡ transfer_begun kind unit (held parameters) self.old.registers.setting (seen S.DriveString.meaning self.old) }
-        ensures rest { S.DriveString.rest self.new.string ≡ S.DriveString.rest self.old.string }
+    pub(super) fn begin_transfer(
+        &mut self,
+        kind: Kind,
+        unit: u8,
+        setting: Setting,
+        parameters: Buffer,
+    )
+        ensures { seen S.DriveString self.new ≡ transfer_begun kind unit setting parameters (seen S.DriveString self.old) }
     {
-        let Some(setting) = self.registers.setting else {
-            self.begin_invalid();
-            return;
-        };
         let numbers = numbers_of(parameters);
         if numbers.count == 0 {
             self.begin_invalid();
             return;
         }
-        self.begin(Running::Transfer(Transfer {
+        self.begin(Some(Running::Transfer(Transfer {
             kind,
             unit,
             setting,
@@ -247,6 +215,6 @@ impl<S: DriveString> Controller<S> {
             stage: Stage::Search { first: true },
             wanted: sector_wants(kind, setting),
             cut: false,
-        }));
+        })));
     }
 }
