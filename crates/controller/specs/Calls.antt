@@ -39,10 +39,12 @@ byte_given byte r s =
     (cond (nat_le 8 (length s.buffer)) (Err Full, s)
     (Ok tt, with_running (Some (less_wanted r)) (with_buffer (added s.buffer byte) s)))
 
+-- a byte for the running command, or a parameter
 abbrev pub byte_written : ℕ → Option Running → State → Answer × State
 byte_written byte (Some r) s = byte_given byte r s
 byte_written byte None s = cond s.registers.results (Ok tt, first_parameter byte s) (byte_kept byte s)
 
+-- a byte written to the data register
 abbrev pub write_step : ℕ → State → Answer × State
 write_step byte s = byte_written byte s.registers.running s
 
@@ -55,6 +57,7 @@ abbrev pub handed : List ℕ → State → Result ℕ Refusal × State
 handed [] s = (Err NothingToRead, s)
 handed (byte ∷ rest) s = (Ok byte, with_buffer rest s)
 
+-- a byte read from it
 abbrev pub read_step : State → Result ℕ Refusal × State
 read_step s = cond (is_readable s) (handed s.buffer s) (Err NothingToRead, s)
 
@@ -70,15 +73,18 @@ transfer_cut Read t s = (Ok tt, with_running (Some (running.Transfer (cut_off t)
 transfer_cut Check t s = (Err NoTransfer, s)
 transfer_cut Write t s = (Ok tt, with_running (Some (running.Transfer (cut_off t))) s)
 
+-- no other command is cut off
 abbrev pub cut_by : Option Running → State → Answer × State
 cut_by (Some (running.Transfer t)) s = transfer_cut t.kind t s
 cut_by other s = (Err NoTransfer, s)
 
+-- the running command is cut off
 abbrev pub terminal_step : State → Answer × State
 terminal_step s = cut_by s.registers.running s
 
 -- ---- a line
 
+-- the line of a unit that is there is set
 abbrev pub line_step : ℕ → Line → Bool → State → Answer × State
 line_step unit line value s =
     cond (is_present unit s.drives) (Ok tt, with_drives (changed s.drives unit (with_line line value)) s) (Err MissingUnit, s)

@@ -37,6 +37,7 @@ begun r s =
 abbrev pub both_ends : Flags
 both_ends = record { ended_high = true; ended_low = true; reset_request = false; id_error = false }
 
+-- the whole of an invalid command
 abbrev pub invalid : State → State
 invalid s = with_flags both_ends (begun None s)
 
@@ -91,6 +92,7 @@ seek_begun unit p s = begun (Some (running.Seek unit (record { 0 = slice_index p
 abbrev pub format_legal : List ℕ → Bool
 format_legal p = nat_lt 0 (slice_index p 1) && nat_lt (slice_index p 4) 45
 
+-- with other parameters it is invalid
 abbrev pub format_begun : ℕ → Setting → List ℕ → State → State
 format_begun unit setting p s =
     cond (format_legal p)
@@ -114,6 +116,7 @@ numbers_of p =
       count = slice_index p 5;
     }
 
+-- with SCNT 0 they are invalid
 abbrev pub transfer_begun : Kind → ℕ → Setting → List ℕ → State → State
 transfer_begun kind unit setting p s =
     cond (nat_lt 0 (slice_index p 5))
@@ -128,6 +131,7 @@ transfer_begun kind unit setting p s =
     }))) s)
     (invalid s)
 
+-- what a command does
 abbrev pub commanded : Command → State → State
 commanded (command.Auxiliary a) s = auxiliary_done a s
 commanded command.Specify s = setting_made (specified (parameters s)) s
@@ -138,9 +142,11 @@ commanded (command.Format unit setting) s = format_begun unit setting (parameter
 commanded (command.Transfer kind unit setting) s = transfer_begun kind unit setting (parameters s) s
 commanded command.Invalid s = invalid s
 
+-- a call is accepted, or declined
 abbrev pub Answer : Type 0
 Answer = Result (Unit {0}) Refusal
 
+-- a command that is refused does nothing
 abbrev pub unless_refused : Result Command Refusal → State → Answer × State
 unless_refused (Ok c) s = (Ok tt, commanded c s)
 unless_refused (Err refusal) s = (Err refusal, s)

@@ -1,5 +1,4 @@
--- What a controller is, to its contracts: its drives, the bytes in its buffer, the memory that the drives do not name, and
--- its registers.
+-- What a controller is, to its contracts.
 use Rattle.std.specs.Prelude.{ℕ, false, List, [], None, Option}
 use Rattle.drives.specs.declared.string.DriveString.{Ghosts}
 use Rattle.drives.specs.Drives.{Drive}
@@ -13,6 +12,7 @@ use Rattle.transfers.specs.Steps.{Path}
 use Rattle.controller.specs.declared.controller.Registers.{Registers}
 use Rattle.controller.specs.declared.controller.Controller.{Controller}
 
+-- its drives, the bytes in its buffer, the memory that the drives do not name, and its registers
 pub record State : Type 0 where
   pub drives : List Drive
   pub buffer : List ℕ

@@ -44,28 +44,28 @@ recalibrate_turn unit pulses s =
     (cond (nat_le 1023 pulses) (seek_ended EquipmentCheck unit s)
     (with_running (Some (running.Recalibrate unit (pulses + 1))) (with_drives (changed s.drives unit (pulsed Outward)) s))))
 
--- after a turn a transfer or a Format goes on, or it ends
+-- after a turn a transfer goes on, or it ends
 abbrev pub transfer_follows : Outcome Transfer → State → State
 transfer_follows (Continue t) s = with_running (Some (running.Transfer t)) s
 transfer_follows (Break (end, t)) s = transfer_ended end t.numbers s
 
+-- likewise a Format
 abbrev pub format_follows : Outcome Format → State → State
 format_follows (Continue f) s = with_running (Some (running.Format f)) s
 format_follows (Break (end, f)) s = format_ended end f.count s
 
-abbrev pub transfer_done : Step Transfer → State → State
-transfer_done (outcome, path) s = transfer_follows outcome (with_path path s)
+-- what follows a step, with the path as it leaves it
+abbrev pub followed : {T : Type 0} → (Outcome T → State → State) → Step T → State → State
+followed follows (outcome, path) s = follows outcome (with_path path s)
 
-abbrev pub format_done : Step Format → State → State
-format_done (outcome, path) s = format_follows outcome (with_path path s)
-
+-- one step of a command; none where none runs
 abbrev pub turn_of : Option Running → State → State
 turn_of None s = s
 turn_of (Some (running.Seek unit target)) s = seek_turn unit target s
 turn_of (Some (running.Recalibrate unit pulses)) s = recalibrate_turn unit pulses s
-turn_of (Some (running.Transfer t)) s = transfer_done (transfer_turn t (path_of s)) s
-turn_of (Some (running.Format f)) s = format_done (format_turn f (path_of s)) s
+turn_of (Some (running.Transfer t)) s = followed transfer_follows (transfer_turn t (path_of s)) s
+turn_of (Some (running.Format f)) s = followed format_follows (format_turn f (path_of s)) s
 
--- one step of the running command; none where none runs
+-- one step of the running command
 abbrev pub turned : State → State
 turned s = turn_of s.registers.running s

@@ -1,13 +1,10 @@
 -- Every command ends.
-use Rattle.std.proofs.Common.{◌≡◌, ◌≢◌, ℕ, ◌+◌, ◌-◌, ◌*◌, ◌<◌, ◌≤◌, Bool, true, false, List, [], ◌∷◌, ◌++◌, length, Some, None, Option, ap, add-mul, arith, get_or, zero, suc, is_some, Ok, Err, Result, cond, not, ◌&&◌, sym, subst, ⊎_elim, refl}
+use Rattle.std.proofs.Common.{◌≡◌, ℕ, ◌+◌, ◌-◌, ◌*◌, ◌<◌, ◌≤◌, Bool, true, false, List, [], ◌∷◌, ◌++◌, length, Some, None, Option, ap, add-mul, arith, get_or, zero, suc, is_some, Ok, Err, Result, cond, not, ◌&&◌, sym, subst, ⊎_elim, refl}
 use Rattle.std.proofs.lemmas.Bool.{cases_Bool, true≢false}
-use Rattle.std.proofs.lemmas.Grind.{common_steps, elements}
+use Rattle.std.proofs.lemmas.Grind.{common_steps}
 use Rattle.std.specs.declared.ops.ControlFlow.TheVariants.{Continue, Break}
 use Rattle.std.specs.ControlFlow.{break_value}
 use Rattle.std.specs.Prelude.{IsSome, ◌==◌}
-use Rattle.registers.specs.declared.units.UnitRecords.{UnitRecords}
-use Rattle.registers.specs.Records.{record_at, moved_record, believed, moved, recalled, all_zero}
-use Rattle.drives.specs.declared.parts.Direction.{Direction}
 use Rattle.registers.specs.declared.end.End.{End}
 use Rattle.registers.specs.declared.numbers.Numbers.{Numbers}
 use Rattle.registers.specs.declared.running.Stage.{Stage}
@@ -17,7 +14,7 @@ use Rattle.registers.specs.declared.running.Format.{Format}
 use Rattle.registers.specs.declared.setting.Setting.{Setting}
 use Rattle.registers.specs.Addresses.{advanced}
 use Rattle.transfers.specs.Steps.{Path, Outcome}
-use Rattle.controller.specs.Turns.{towards, seek_turn, recalibrate_turn, transfer_follows, format_follows, turn_of}
+use Rattle.controller.specs.Turns.{seek_turn, recalibrate_turn, transfer_follows, format_follows, turn_of}
 use Rattle.controller.specs.State.{State, fresh, path_of, with_path}
 use Rattle.controller.specs.Starting.{parameters, unless_refused}
 use Rattle.runs.specs.declared.call.Call.{Call}
@@ -38,7 +35,8 @@ use Rattle.transfers.specs.Transfers.{stopped, on_search, byte_turn, counted_on,
 use Rattle.transfers.specs.Formats.{format_turn}
 use Rattle.drives.specs.declared.numbers.Slot.{Slot}
 use Rattle.registers.specs.declared.kind.Kind.{Kind}
-use Rattle.port_laws.specs.OfEnds.{CommandsEnd, IsByte, AreBytes, StaysBusy, turns_among, counts, busy, waits, left_of, turns_left, distance, sector_turns, stage_left, slots_left, waits_in}
+use Rattle.port_laws.proofs.Records.{Narrow, recalled_small, moved_four, recalled_four, moved_small, zero_narrow, pulse_nearer}
+use Rattle.port_laws.specs.OfEnds.{CommandsEnd, IsByte, AreBytes, StaysBusy, turns_among, counts, busy, waits, left_of, turns_left, sector_turns, stage_left, slots_left, waits_in}
 
 -- ---- what a running transfer keeps
 
@@ -103,44 +101,6 @@ FewerSlots f (Break b) = Unit {0}
 
 format_fewer : (f : Format) (p : Path) → 0 < f.count → FewerSlots f (format_turn f p).0
 format_fewer f p l = grind (arith, common_steps)
-
--- ---- units
-
--- four records of sixteen bits
-pub record Narrow (units : UnitRecords) : Type 0 where
-  pub four : length units.of ≡ 4
-  pub small : (u : ℕ) → believed units u < 65536
-
-moved_here : (units : UnitRecords) (u : ℕ) (d : Direction) → length units.of ≡ 4 → u < 4 → believed (moved units u d) u ≡ (moved_record d (record_at (believed units u))).cylinder.0
-unfolding believed moved
-moved_here units u d e l = grind (arith, common_steps, elements)
-
-recalled_small : (units : UnitRecords) (u v : ℕ) → believed units v < 65536 → believed (recalled units u) v < 65536
-unfolding believed recalled
-recalled_small units u v l = grind (arith, common_steps, elements)
-
-moved_four : (units : UnitRecords) (u : ℕ) (d : Direction) → length (moved units u d).of ≡ length units.of
-unfolding moved
-moved_four units u d = grind (arith, common_steps, elements)
-
-recalled_four : (units : UnitRecords) (u : ℕ) → length (recalled units u).of ≡ length units.of
-unfolding recalled
-recalled_four units u = grind (arith, common_steps, elements)
-
-moved_small : (units : UnitRecords) (u v : ℕ) (d : Direction) → believed units v < 65536 → believed (moved units u d) v < 65536
-unfolding believed moved
-moved_small units u v d l = grind (arith, common_steps, elements)
-
-zero_narrow : Narrow all_zero
-unfolding believed all_zero
-zero_narrow = record { four = refl; small = λ v. grind (arith, common_steps, elements) }
-
--- a pulse towards the target brings PCN nearer to it
-pulse_nearer : (units : UnitRecords) (u target : ℕ) → Narrow units → u < 4 → target < 65536 → believed units u ≢ target → distance (believed (moved units u (towards (believed units u) target)) u) target < distance (believed units u) target
-pulse_nearer units u target k l m n =
-    let e = moved_here units u (towards (believed units u) target) k.four l in
-    let s = k.small u in
-    grind (arith, common_steps)
 
 -- ---- what every state keeps
 

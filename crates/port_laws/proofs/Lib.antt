@@ -1,3 +1,4 @@
 mod Units
 mod Holding
+mod Records
 mod Lasting

@@ -15,7 +15,7 @@ use Rattle.registers.specs.declared.running.FormatStage.{FormatStage}
 use Rattle.registers.specs.declared.running.FormatStage.TheVariants.{Opening, Writing}
 use Rattle.registers.specs.Settings.{id_scheme, data_scheme}
 use Rattle.transfers.specs.Tests.{Test, line_test}
-use Rattle.transfers.specs.Steps.{Path, Outcome, Step}
+use Rattle.transfers.specs.Steps.{Path, Outcome, Step, unless_ended}
 
 -- in the first turn: L below DTL, or PHN not below H, EQC; then protect, NWR
 abbrev pub first_format_test : Format → List Drive → Test
@@ -23,10 +23,12 @@ first_format_test f ds =
     cond (nat_lt (drive ds f.unit).shape.length f.setting.length || nat_le (drive ds f.unit).shape.heads f.head.0) (Err EquipmentCheck)
     (cond ((drive ds f.unit).lines Protect) (Err NotWritable) (Ok tt))
 
+-- the tests of a stage: none but before the first turn
 abbrev pub format_stage_test : FormatStage → Format → List Drive → Test
 format_stage_test Opening f ds = first_format_test f ds
 format_stage_test (Writing slot) f ds = Ok tt
 
+-- all tests of a turn, those of the unit's lines first
 abbrev pub format_test : Format → List Drive → Test
 format_test f ds = result_and (line_test f.unit ds) (format_stage_test f.stage f ds)
 
@@ -57,13 +59,11 @@ slot_turn slot f p =
     cond (nat_le (drive p.drives f.unit).shape.slots slot.0) (Break (EndOfCylinder, f), p)
     (cond (nat_lt (length p.buffer) 4) (Break (Overrun, f), p) (slot_taken slot f p))
 
+-- the turn of a stage
 abbrev pub format_stage_turn : FormatStage → Format → Path → Step Format
 format_stage_turn Opening f p = track_turn f p
 format_stage_turn (Writing slot) f p = slot_turn slot f p
 
-abbrev pub unless_format_ended : Test → Format → Path → Step Format
-unless_format_ended (Err end) f p = (Break (end, f), p)
-unless_format_ended (Ok passed) f p = format_stage_turn f.stage f p
-
+-- the tests, and the turn of the stage
 abbrev pub format_turn : Format → Path → Step Format
-format_turn f p = unless_format_ended (format_test f p.drives) f p
+format_turn f p = unless_ended (format_test f p.drives) f p (format_stage_turn f.stage f p)

@@ -1,11 +1,13 @@
 -- What a turn works on, and what it makes of it.
-use Rattle.std.specs.Prelude.{ℕ, List}
+use Rattle.std.specs.Prelude.{ℕ, List, Ok, Err}
 use Rattle.std.specs.declared.ops.ControlFlow.{ControlFlow}
+use Rattle.std.specs.declared.ops.ControlFlow.TheVariants.{Break}
 use Rattle.drives.specs.declared.string.DriveString.{Ghosts}
 use Rattle.drives.specs.Drives.{Drive}
 use Rattle.drives.specs.Sound.{Rest}
 use Rattle.registers.specs.declared.end.End.{End}
 use Rattle.transfers.specs.declared.path.DataPath.{DataPath}
+use Rattle.transfers.specs.Tests.{Test}
 
 -- the drives, the bytes in the buffer between them and the host, and the memory that the drives do not name
 pub record Path : Type 0 where
@@ -24,3 +26,8 @@ Outcome T = ControlFlow (End × T) T
 -- what a turn makes of a running transfer or Format, and of the path
 abbrev pub Step : Type 0 → Type 0
 Step T = Outcome T × Path
+
+-- a test that fails ends the command as it stands; else it takes its step
+abbrev pub unless_ended : {T : Type 0} → Test → T → Path → Step T → Step T
+unless_ended (Err end) t p next = (Break (end, t), p)
+unless_ended (Ok passed) t p next = next

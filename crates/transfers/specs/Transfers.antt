@@ -26,7 +26,7 @@ use Rattle.registers.specs.Buffers.{added}
 use Rattle.registers.specs.Kinds.{hands_out, takes_bytes, writes}
 use Rattle.registers.specs.Settings.{id_scheme, data_scheme}
 use Rattle.transfers.specs.Tests.{Test, line_test}
-use Rattle.transfers.specs.Steps.{Path, Outcome, Step}
+use Rattle.transfers.specs.Steps.{Path, Outcome, Step, unless_ended}
 
 -- ---- tests before every turn, and more in the first
 
@@ -36,12 +36,14 @@ first_test t ds =
     cond (nat_lt (drive ds t.unit).shape.length t.setting.length) (Err EquipmentCheck)
     (cond (writes t.kind && (drive ds t.unit).lines Protect) (Err NotWritable) (Ok tt))
 
+-- the tests of a stage: none but before the first search
 abbrev pub stage_test : Stage → Transfer → List Drive → Test
 stage_test (Search first) t ds = cond first (first_test t ds) (Ok tt)
 stage_test (Bytes slot done) t ds = Ok tt
 stage_test (CheckBytes slot) t ds = Ok tt
 stage_test (Waiting end) t ds = Ok tt
 
+-- all tests of a turn, those of the unit's lines first
 abbrev pub turn_test : Transfer → List Drive → Test
 turn_test t ds = result_and (line_test t.unit ds) (stage_test t.stage t ds)
 
@@ -75,10 +77,12 @@ found slot t p =
     cond (writes t.kind) (Continue (record t { stage = Bytes slot 0 }), opened slot t p)
     (cond (mark_here (drive p.drives t.unit) Data t.numbers.head.0 slot.0) (Continue (record t { stage = Bytes slot 0 }), p) (stopped MissingMark t, p))
 
+-- what follows a search
 abbrev pub on_search : Option Slot → Transfer → Path → Step Transfer
 on_search None t p = (stopped (not_found t (drive p.drives t.unit)) t, p)
 on_search (Some slot) t p = found slot t p
 
+-- the whole search turn
 abbrev pub search_turn : Transfer → Path → Step Transfer
 search_turn t p = on_search (search t (drive p.drives t.unit)) t p
 
@@ -107,6 +111,7 @@ abbrev pub byte_taken : Slot → ℕ → Transfer → List ℕ → Path → Step
 byte_taken slot done t [] p = cond t.cut (byte_put 0 slot done t p) (Break (Overrun, t), p)
 byte_taken slot done t (byte ∷ rest) p = byte_put byte slot done t (record p { buffer = rest })
 
+-- a byte turn; Check moves no byte
 abbrev pub byte_turn : Kind → Slot → ℕ → Transfer → Path → Step Transfer
 byte_turn Read slot done t p = byte_read slot done t p
 byte_turn Check slot done t p = (byte_done slot done t, p)
@@ -160,15 +165,13 @@ check_turn slot t p =
 abbrev pub waiting_turn : End → Transfer → List ℕ → Outcome Transfer
 waiting_turn end t buffer = cond (length buffer == 0) (Break (end, t)) (Continue t)
 
+-- the turn of a stage
 abbrev pub stage_turn : Stage → Transfer → Path → Step Transfer
 stage_turn (Search first) t p = search_turn t p
 stage_turn (Bytes slot done) t p = byte_turn t.kind slot done t p
 stage_turn (CheckBytes slot) t p = check_turn slot t p
 stage_turn (Waiting end) t p = (waiting_turn end t p.buffer, p)
 
-abbrev pub unless_ended : Test → Transfer → Path → Step Transfer
-unless_ended (Err end) t p = (Break (end, t), p)
-unless_ended (Ok passed) t p = stage_turn t.stage t p
-
+-- the tests, and the turn of the stage
 abbrev pub transfer_turn : Transfer → Path → Step Transfer
-transfer_turn t p = unless_ended (turn_test t p.drives) t p
+transfer_turn t p = unless_ended (turn_test t p.drives) t p (stage_turn t.stage t p)

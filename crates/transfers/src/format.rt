@@ -2,7 +2,8 @@ ghost use Rattle.std.specs.Prelude.{◌≡◌};
 ghost use Rattle.transfers.specs.Steps.{shown};
 ghost use Rattle.transfers.specs.Formats.{first_format_test, format_test, track_turn, slot_turn, format_turn};
 
-use crate::path::{DataPath, Outcome};
+use crate::outcome::Outcome;
+use crate::path::DataPath;
 use crate::ready::line_test;
 use drives::numbers::Slot;
 use drives::parts::Line;
@@ -50,6 +51,7 @@ impl<S: DriveString> DataPath<S> {
         })
     }
 
+    // Takes four bytes and closes the slot with them as its numbers.
     fn slot_turn(&mut self, f: Format, slot: Slot) -> Outcome<Format>
         ensures { (result, shown S.DriveString self.new) ≡ slot_turn slot f (shown S.DriveString self.old) }
     {

@@ -3,6 +3,7 @@
 #![tactic(auto)]
 
 pub mod format;
+pub mod outcome;
 pub mod path;
 pub mod ready;
 pub mod transfer;

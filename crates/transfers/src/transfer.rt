@@ -3,7 +3,8 @@ ghost use Rattle.drives.specs.Drives.{drive};
 ghost use Rattle.transfers.specs.Steps.{shown};
 ghost use Rattle.transfers.specs.Transfers.{sector_wants, first_test, turn_test, stopped, not_found, search_turn, byte_done, byte_read, byte_taken, byte_turn, counted_on, check_turn, waiting_turn, transfer_turn};
 
-use crate::path::{DataPath, Outcome};
+use crate::outcome::Outcome;
+use crate::path::DataPath;
 use crate::ready::line_test;
 use drives::numbers::Slot;
 use drives::parts::{Line, Part};
@@ -113,6 +114,7 @@ fn count_on(t: Transfer, numbers: Numbers) -> Outcome<Transfer>
 }
 
 impl<S: DriveString> DataPath<S> {
+    // Looks for the sector that is next, and opens it if the transfer writes.
     fn search_turn(&mut self, t: Transfer) -> Outcome<Transfer>
         ensures { (result, shown S.DriveString self.new) ≡ search_turn t (shown S.DriveString self.old) }
     {
@@ -130,6 +132,7 @@ impl<S: DriveString> DataPath<S> {
         Continue(Transfer { stage, ..t })
     }
 
+    // The next data byte into the buffer; after terminal count it is hidden.
     fn read_byte(&mut self, t: Transfer, slot: Slot, done: u16) -> Outcome<Transfer>
         ensures { (result, shown S.DriveString self.new) ≡ byte_read slot done t (shown S.DriveString self.old) }
     {
@@ -143,6 +146,7 @@ impl<S: DriveString> DataPath<S> {
         byte_done(t, slot, done)
     }
 
+    // The oldest byte of the buffer into the sector; after terminal count 00 where there is none.
     fn take_byte(&mut self, t: Transfer, slot: Slot, done: u16) -> Outcome<Transfer>
         ensures { (result, shown S.DriveString self.new) ≡ byte_taken slot done t (shown S.DriveString self.old).buffer (shown S.DriveString self.old) }
     {
@@ -160,6 +164,7 @@ impl<S: DriveString> DataPath<S> {
         byte_done(t, slot, done)
     }
 
+    // Moves a data byte; Check moves none.
     fn byte_turn(&mut self, t: Transfer, slot: Slot, done: u16) -> Outcome<Transfer>
         ensures { (result, shown S.DriveString self.new) ≡ byte_turn t.kind slot done t (shown S.DriveString self.old) }
     {
@@ -170,6 +175,7 @@ impl<S: DriveString> DataPath<S> {
         }
     }
 
+    // Writes the check and closes the sector, or tests the check.
     fn check_turn(&mut self, t: Transfer, slot: Slot) -> Outcome<Transfer>
         ensures { (result, shown S.DriveString self.new) ≡ check_turn slot t (shown S.DriveString self.old) }
     {

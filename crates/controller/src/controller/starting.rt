@@ -1,7 +1,7 @@
 ghost use Rattle.std.specs.Prelude.{◌≡◌};
 ghost use Rattle.drives.specs.Drives.{drive};
 ghost use Rattle.controller.specs.State.{seen};
-ghost use Rattle.controller.specs.Starting.{parameters, begun, invalid, reset_done, end_cleared, buffer_cleared, auxiliary_done, setting_made, unit_status, sensed, recalibrate_begun, seek_begun, format_legal, format_begun, numbers_of, transfer_begun};
+ghost use Rattle.controller.specs.Starting.{parameters, begun, invalid, reset_done, auxiliary_done, setting_made, unit_status, sensed, recalibrate_begun, seek_begun, format_legal, format_begun, numbers_of, transfer_begun};
 
 use crate::controller::ending::plain_flags;
 use crate::controller::{Controller, Registers};
@@ -107,21 +107,6 @@ impl<S: DriveString> Controller<S> {
         self.registers.setting = None;
     }
 
-    fn clear_end(&mut self)
-        ensures { seen S.DriveString self.new ≡ end_cleared (seen S.DriveString self.old) }
-    {
-        self.registers.flags.ended_high = false;
-        self.registers.flags.ended_low = false;
-    }
-
-    fn clear_buffer(&mut self)
-        ensures { seen S.DriveString self.new ≡ buffer_cleared (seen S.DriveString self.old) }
-    {
-        if self.registers.running.is_none() {
-            self.path.buffer = Buffer::empty();
-        }
-    }
-
     pub(super) fn do_auxiliary(&mut self, auxiliary: Auxiliary)
         ensures { seen S.DriveString self.new ≡ auxiliary_done auxiliary (seen S.DriveString self.old) }
     {
@@ -129,11 +114,12 @@ impl<S: DriveString> Controller<S> {
             self.reset();
             return;
         }
-        if auxiliary.clear_buffer {
-            self.clear_buffer();
+        if auxiliary.clear_buffer && self.registers.running.is_none() {
+            self.path.buffer = Buffer::empty();
         }
         if auxiliary.clear_end {
-            self.clear_end();
+            self.registers.flags.ended_high = false;
+            self.registers.flags.ended_low = false;
         }
     }
 
