@@ -3,6 +3,7 @@ pub mod Drives
 pub mod Shapes
 pub mod Changes
 pub mod Sound
+pub mod Whole
 pub mod Joined
 pub mod Sides
 pub mod Kept

@@ -1,7 +1,7 @@
 ghost use Rattle.std.specs.Prelude.{◌≡◌};
 ghost use Rattle.check_bytes.specs.Schemes.{divider};
 ghost use Rattle.drives.specs.Drives.{drive};
-ghost use Rattle.drives.specs.Changes.{changed};
+ghost use Rattle.drives.specs.Whole.{whole, only};
 ghost use Rattle.tracks.specs.Marks.{is_wrong_id, has_id_mark, has_wrong_id, track_opened};
 
 use check_bytes::rule::CheckRule;
@@ -45,8 +45,7 @@ pub fn has_wrong_id<S: DriveString, R: CheckRule>(
 // Lowers both marks of all slots of a track.
 #[tactic(auto, using(crate::proofs::Steps::slot_steps))]
 pub fn open_track<S: DriveString>(string: &mut S, track: Track)
-    ensures meaning { S.DriveString.meaning string.new ≡ changed (S.DriveString.meaning string.old) track.unit (track_opened track.head.0) }
-    ensures rest { S.DriveString.rest string.new ≡ S.DriveString.rest string.old }
+    ensures { whole S.DriveString string.new ≡ only track.unit (track_opened track.head.0) (whole S.DriveString string.old) }
 {
     for slot in 0..string.geometry(track.unit).slots {
         let place = track.at(Slot(slot));

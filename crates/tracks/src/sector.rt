@@ -2,7 +2,8 @@ ghost use Rattle.std.specs.Prelude.{◌≡◌};
 ghost use Rattle.check_bytes.specs.Schemes.{divider};
 ghost use Rattle.drives.specs.declared.parts.Part.TheVariants.{Data};
 ghost use Rattle.drives.specs.Drives.{drive};
-ghost use Rattle.drives.specs.Changes.{changed, with_byte};
+ghost use Rattle.drives.specs.Changes.{with_byte};
+ghost use Rattle.drives.specs.Whole.{whole, only};
 ghost use Rattle.tracks.specs.Writes.{id_field, with_id, with_pattern, with_check, sector_closed, sector_formatted};
 
 use check_bytes::check::check_byte;
@@ -36,8 +37,7 @@ fn write_id<S: DriveString, R: CheckRule>(
     place: Place,
     numbers: [u8; 4],
 )
-    ensures meaning { S.DriveString.meaning string.new ≡ changed (S.DriveString.meaning string.old) place.unit (with_id (divider R.CheckRule scheme.now) place.head.0 place.slot.0 numbers) }
-    ensures rest { S.DriveString.rest string.new ≡ S.DriveString.rest string.old }
+    ensures { whole S.DriveString string.new ≡ only place.unit (with_id (divider R.CheckRule scheme.now) place.head.0 place.slot.0 numbers) (whole S.DriveString string.old) }
 {
     let bytes = id_bytes(scheme, numbers);
     for (i, byte) in bytes.iter().enumerate() {
@@ -48,8 +48,7 @@ fn write_id<S: DriveString, R: CheckRule>(
 // Writes so many data bytes of one value.
 #[tactic(auto, using(crate::proofs::Steps::byte_steps), unfolding(crate::specs::Writes::with_pattern))]
 fn write_pattern<S: DriveString>(string: &mut S, place: Place, length: u16, value: u8)
-    ensures meaning { S.DriveString.meaning string.new ≡ changed (S.DriveString.meaning string.old) place.unit (with_pattern place.head.0 place.slot.0 length value) }
-    ensures rest { S.DriveString.rest string.new ≡ S.DriveString.rest string.old }
+    ensures { whole S.DriveString string.new ≡ only place.unit (with_pattern place.head.0 place.slot.0 length value) (whole S.DriveString string.old) }
 {
     for i in 0..length {
         string.set_byte(place, Part::Data, i, value);
@@ -59,8 +58,7 @@ fn write_pattern<S: DriveString>(string: &mut S, place: Place, length: u16, valu
 // Writes a byte of a data field, however large its index is: no field is so long that it could pass sixteen bits.
 #[tactic(auto, using(crate::proofs::Steps::past_field))]
 fn set_field_byte<S: DriveString>(string: &mut S, place: Place, i: u32, value: u8)
-    ensures meaning { S.DriveString.meaning string.new ≡ changed (S.DriveString.meaning string.old) place.unit (with_byte Data place.head.0 place.slot.0 i value) }
-    ensures rest { S.DriveString.rest string.new ≡ S.DriveString.rest string.old }
+    ensures { whole S.DriveString string.new ≡ only place.unit (with_byte Data place.head.0 place.slot.0 i value) (whole S.DriveString string.old) }
 {
     if let Ok(i) = u16::try_from(i) {
         string.set_byte(place, Part::Data, i, value);
@@ -75,8 +73,7 @@ fn write_check<S: DriveString, R: CheckRule>(
     place: Place,
     length: u16,
 )
-    ensures meaning { S.DriveString.meaning string.new ≡ changed (S.DriveString.meaning string.old) place.unit (with_check (divider R.CheckRule scheme.now) place.head.0 place.slot.0 length) }
-    ensures rest { S.DriveString.rest string.new ≡ S.DriveString.rest string.old }
+    ensures { whole S.DriveString string.new ≡ only place.unit (with_check (divider R.CheckRule scheme.now) place.head.0 place.slot.0 length) (whole S.DriveString string.old) }
 {
     let check = field_check(string, scheme, place, length).right;
     for i in 0..scheme.rule.width() {
@@ -93,8 +90,7 @@ pub fn close_sector<S: DriveString, R: CheckRule>(
     place: Place,
     length: u16,
 )
-    ensures meaning { S.DriveString.meaning string.new ≡ changed (S.DriveString.meaning string.old) place.unit (sector_closed (divider R.CheckRule scheme.now) place.head.0 place.slot.0 length) }
-    ensures rest { S.DriveString.rest string.new ≡ S.DriveString.rest string.old }
+    ensures { whole S.DriveString string.new ≡ only place.unit (sector_closed (divider R.CheckRule scheme.now) place.head.0 place.slot.0 length) (whole S.DriveString string.old) }
 {
     write_check(string, scheme, place, length);
     string.set_mark(place, Part::Data, true);
@@ -111,8 +107,7 @@ pub fn format_sector<S: DriveString, I: CheckRule, D: CheckRule>(
     length: u16,
     value: u8,
 )
-    ensures meaning { S.DriveString.meaning string.new ≡ changed (S.DriveString.meaning string.old) place.unit (sector_formatted (divider I.CheckRule id_scheme.now) (divider D.CheckRule data_scheme.now) place.head.0 place.slot.0 numbers length value) }
-    ensures rest { S.DriveString.rest string.new ≡ S.DriveString.rest string.old }
+    ensures { whole S.DriveString string.new ≡ only place.unit (sector_formatted (divider I.CheckRule id_scheme.now) (divider D.CheckRule data_scheme.now) place.head.0 place.slot.0 numbers length value) (whole S.DriveString string.old) }
 {
     write_id(string, id_scheme, place, numbers);
     write_pattern(string, place, length, value);
