@@ -9,7 +9,7 @@ use crate::rule::CheckRule;
 use std::fmt;
 
 // A rule chosen at run time.
-#[derive(Clone, Copy)]
+#[derive(Clone, Copy, Debug, PartialEq, Eq)]
 pub enum CheckKind {
     Crc,
     Lrc,

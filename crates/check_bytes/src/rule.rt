@@ -3,7 +3,7 @@ ghost use Rattle.check_bytes.specs.Polynomials.{Degree};
 ghost use Rattle.check_bytes.specs.Checks.{fed};
 
 // What the check register holds before the first byte.
-#[derive(Clone, Copy)]
+#[derive(Clone, Copy, Debug, PartialEq, Eq)]
 pub enum Start {
     Zeros,
     Ones,
@@ -26,4 +26,23 @@ pub trait CheckRule {
     ghost shaped: { (rule : Self) → Degree (generator rule) (degree rule) };
 
     ghost narrow: { (rule : Self) → degree rule ≤ 32 };
+}
+
+// A rule that is lent is the rule itself.
+impl<R: CheckRule> CheckRule for &R {
+    ghost generator = { λ rule. R.generator rule.now };
+
+    ghost degree = { λ rule. R.degree rule.now };
+
+    ghost shaped = { λ rule. R.shaped rule.now };
+
+    ghost narrow = { λ rule. R.narrow rule.now };
+
+    fn width(&self) -> u8 {
+        (**self).width()
+    }
+
+    fn feed(&self, register: u32, byte: u8) -> u32 {
+        (**self).feed(register, byte)
+    }
 }

@@ -51,3 +51,21 @@ fn all_ones(width: u8) -> u32
 {
     ((1u64 << (8 * width)) - 1) as u32
 }
+
+#[cfg(test)]
+mod tests {
+    use super::*;
+    use crate::kind::CheckKind;
+    use std::test::Fail;
+
+    #[test]
+    fn check_bytes_are_made(rt: HostRuntime) -> Result<(), Fail> {
+        let scheme = CheckScheme {
+            rule: CheckKind::Crc,
+            start: Start::Zeros,
+        };
+        let bytes = scheme.check_bytes_of(rt.alloc(), b"123456789")?;
+        assert_eq!(rt; bytes.as_slice(), [0x31, 0xc3].as_slice());
+        Ok(())
+    }
+}

@@ -12,7 +12,7 @@ pub struct Geometry {
 }
 
 // The numbers of a geometry, each of which has bounds.
-#[derive(Clone, Copy, PartialEq, Eq)]
+#[derive(Clone, Copy, Debug, PartialEq, Eq)]
 pub enum Dimension {
     Cylinders,
     Heads,

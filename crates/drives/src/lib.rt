@@ -4,6 +4,7 @@
 pub mod bay;
 pub mod collar;
 pub mod geometry;
+mod lent;
 pub mod numbers;
 pub mod pair;
 pub mod parts;

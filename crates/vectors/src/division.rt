@@ -26,7 +26,7 @@ fn bring_down(generator: u32, left: u32, byte: u8) -> u32 {
 // and sixteen zeros, its first sixteen coefficients turned over where the register starts at ones.
 pub fn divide(scheme: CheckScheme<CheckKind>, bytes: &[u8]) -> u32 {
     let generator = generator(scheme.rule);
-    let from_ones = matches!(scheme.start, Start::Ones);
+    let from_ones = scheme.start == Start::Ones;
     bytes
         .iter()
         .chain(&[0, 0])
