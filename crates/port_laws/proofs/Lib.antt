@@ -1,4 +1,5 @@
 mod Units
+mod Rest
 mod Holding
 mod Records
 mod Lasting

@@ -1,2 +1,3 @@
 pub mod OfUnits
+pub mod OfRest
 pub mod OfEnds

@@ -10,6 +10,17 @@ pub fn units_stand()
     ensures held { HeldUnitsStay }
 {}
 
+ghost use Rattle.port_laws.specs.OfRest.{RestStays, RestStaysAfterCalls, TransfersKeepRest, FormatsKeepRest};
+
+// Memory that the drives do not name stays as it is.
+#[tactic(auto, using(crate::proofs::Rest::rest_stays, crate::proofs::Rest::rest_after))]
+pub fn rest_stands()
+    ensures calls { RestStays }
+    ensures after { RestStaysAfterCalls }
+    ensures transfers { TransfersKeepRest }
+    ensures formats { FormatsKeepRest }
+{}
+
 ghost use Rattle.port_laws.specs.OfEnds.{CommandsEnd};
 
 // That every command ends.
