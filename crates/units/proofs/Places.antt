@@ -52,13 +52,13 @@ changes_none d (suc u) f n = refl
 pub no_mark_changes : (p : Part) (h s : ℕ) (value : Bool) (d : Drive) → is_place d.shape d.cylinder h s ≡ false → with_mark p h s value d ≡ d
 unfolding with_mark
 no_mark_changes p h s value d e =
-    ap (λ m. record { shape = d.shape; lines = d.lines; held = d.held; cylinder = d.cylinder; marks = m; bytes = d.bytes })
+    ap (λ m. record d { marks = m })
     (fun_ext (λ p'. fun_ext (λ c'. fun_ext (λ h'. fun_ext (λ s'. cond-false _ _ _ (and_left _ _ e))))))
 
 pub no_byte_changes : (p : Part) (h s i value : ℕ) (d : Drive) → is_byte d.shape p d.cylinder h s i ≡ false → with_byte p h s i value d ≡ d
 unfolding with_byte
 no_byte_changes p h s i value d e =
-    ap (λ b. record { shape = d.shape; lines = d.lines; held = d.held; cylinder = d.cylinder; marks = d.marks; bytes = b })
+    ap (λ b. record d { bytes = b })
     (fun_ext (λ p'. fun_ext (λ c'. fun_ext (λ h'. fun_ext (λ s'. fun_ext (λ i'. cond-false _ _ _ (and_left _ _ e)))))))
 
 -- a unit by its parts
@@ -174,7 +174,7 @@ standing_next Outward cylinders n = omega arith
 
 -- a state with its heads elsewhere
 abbrev pub at_cylinder : ℕ → State → State
-at_cylinder n st = record { layout = st.layout; cylinder = n; ready = st.ready; protect = st.protect; fault = st.fault }
+at_cylinder n st = record st { cylinder = n }
 
 pub heads_moved : (direction : Direction) (st : State) (row : List ℕ) (u : ℕ) → u ≡ 0 → alone (at_cylinder (next_cylinder direction (shape_in st.layout (length row)).cylinders (standing st (length row))) st) row ≡ changed (alone st row) u (pulsed direction)
 unfolding unit_of with_cylinder
