@@ -9,6 +9,6 @@ use Rattle.images.specs.declared.refusal.TrailerField.{TrailerField}
 use Rattle.images.specs.Trailer.{in_field, in_bounds}
 
 -- one that is made stays where a refusal is turned into the trailer's field
-pub made : (r : Result Geometry Dimension) {m : Result Geometry TrailerField} (Q : Dimension → TrailerField → Type 0) (c h s l : ℕ) (g : Geometry) → shape_answer r ≡ bounded_shape c h s l → MatchResult r (λ x. m ≡ Ok x) (λ e. IsErrAnd m (Q e)) → m ≡ Ok g → Ok (shape_of g) ≡ in_bounds c h s l
-made (Ok x) Q c h s l g e k n = let same : x ≡ g = grind (k, n, arith) in ap (λ y. Ok (shape_of y)) (sym same) ∙ ap in_field e
-made (Err d) Q c h s l g e k n = absurd (grind (k, n, arith))
+pub made : (r : Result Geometry Dimension) {m : Result Geometry TrailerField} {g : Geometry} (Q : Dimension → TrailerField → Type 0) (c h s l : ℕ) → shape_answer r ≡ bounded_shape c h s l → MatchResult r (λ x. m ≡ Ok x) (λ e. IsErrAnd m (Q e)) → m ≡ Ok g → Ok (shape_of g) ≡ in_bounds c h s l
+made (Ok x) {g = g} Q c h s l e k n = let same : x ≡ g = grind (k, n, arith) in ap (λ y. Ok (shape_of y)) (sym same) ∙ ap in_field e
+made (Err d) Q c h s l e k n = absurd (grind (k, n, arith))

@@ -14,7 +14,7 @@ pub returns : goal.returns
 returns c =
     let a = c.args in
     let g = shape_of c.in_ok-geometry.geometry in
-    let stays = made c.new.result _ a.cylinders a.heads a.slots a.length c.in_ok-geometry.geometry c.new.ensures c.map_err.ensures.cases c.in_ok-geometry.was in
+    let stays = made c.new.result _ a.cylinders a.heads a.slots a.length c.new.ensures c.map_err.ensures.cases c.in_ok-geometry.was in
     let e : g ≡ record { cylinders = a.cylinders; heads = a.heads; slots = a.slots; length = a.length } = asked a.cylinders a.heads a.slots a.length g stays in (
       sym stays ∙ ap Ok e,
       c.in_ok-extend_from_slice.ensures.items

@@ -6,11 +6,9 @@ use Rattle.images.proofs.trailer.judge.Goals as goal
 pub returns-then-distance-area : goal.returns-then-distance-area
 returns-then-distance-area c =
     let f = c.args.fields in
-    let e = made c.new.result _ f.cylinders f.heads f.slots f.length c.in_ok-geometry.geometry c.new.ensures c.map_err.ensures.cases c.in_ok-geometry.was in
-    grind (e, arith, nat_tests)
+    grind (made c.new.result _ f.cylinders f.heads f.slots f.length c.new.ensures c.map_err.ensures.cases c.in_ok-geometry.was, arith, nat_tests)
 
 pub returns : goal.returns
 returns c =
     let f = c.args.fields in
-    let e = made c.new.result _ f.cylinders f.heads f.slots f.length c.in_ok-geometry.geometry c.new.ensures c.map_err.ensures.cases c.in_ok-geometry.was in
-    grind (e, arith, nat_tests)
+    grind (made c.new.result _ f.cylinders f.heads f.slots f.length c.new.ensures c.map_err.ensures.cases c.in_ok-geometry.was, arith, nat_tests)
