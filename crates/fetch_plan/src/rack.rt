@@ -1,9 +1,8 @@
-use anyhow::anyhow;
 use drives::collar::Collar;
 use drives::pair::Pair;
 use drives::parts::Line;
 use drives::string::DriveString;
-use images::blank::{BlankFault, blank_image};
+use images::blank::blank_image;
 use images::image::{new_cartridge, new_image};
 use images::layers::check_string;
 
@@ -35,12 +34,7 @@ fn show_string<S: DriveString>(rt: &HostRuntime, what: &str, string: &S) -> anyh
 fn show_check(rt: &HostRuntime, what: &str, images: &[&[u8]]) -> anyhow::Result<()> {
     match check_string(images) {
         Ok(()) => println!(rt; "{what}: accepted")?,
-        Err(refused) => {
-            let number = refused.refusal.fault.number();
-            let unit = refused.unit;
-            let position = refused.refusal.position;
-            println!(rt; "{what}: refused {number}, unit {unit}, byte {position}")?;
-        }
+        Err(refused) => println!(rt; "{what}: {refused}")?,
     }
     Ok(())
 }
@@ -64,22 +58,17 @@ fn show_drives(rt: &HostRuntime, memory: &mut [u8]) -> anyhow::Result<()> {
 }
 
 pub fn show_rack(rt: &HostRuntime) -> anyhow::Result<()> {
-    match blank_image(rt.alloc(), 4, 2, 8, 256) {
-        Ok(mut memory) => {
-            let size = memory.len();
-            println!(rt;
-                "A blank image of 4 cylinders, 2 heads, 8 slots of 256 data bytes takes {size} bytes"
-            )?;
-            show_check(
-                rt,
-                "The image and a copy cut short by a byte",
-                &[memory.as_slice(), cut_short(memory.as_slice())],
-            )?;
-            show_drives(rt, memory.as_mut_slice())
-        }
-        Err(BlankFault::OutOfBounds(_)) => Err(anyhow!("the geometry is out of bounds")),
-        Err(BlankFault::NoMemory) => Err(anyhow!("there is no memory for the image")),
-    }
+    let mut memory = blank_image(rt.alloc(), 4, 2, 8, 256)?;
+    let size = memory.len();
+    println!(rt;
+        "A blank image of 4 cylinders, 2 heads, 8 slots of 256 data bytes takes {size} bytes"
+    )?;
+    show_check(
+        rt,
+        "The image and a copy cut short by a byte",
+        &[memory.as_slice(), cut_short(memory.as_slice())],
+    )?;
+    show_drives(rt, memory.as_mut_slice())
 }
 
 // The bytes without the last one.

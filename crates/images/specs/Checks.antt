@@ -1,9 +1,6 @@
 -- What a check's answer says.
 use Rattle.std.specs.Prelude.{Ok, Err, Result}
-use Rattle.drives.specs.declared.geometry.Geometry.{Geometry}
-use Rattle.drives.specs.Drives.{Shape, shape_of}
 use Rattle.units.specs.declared.layout.Layout.{Layout}
-use Rattle.images.specs.declared.refusal.TrailerField.{TrailerField}
 use Rattle.images.specs.declared.refusal.ImageFault.{ImageFault}
 use Rattle.images.specs.declared.trailer.Checked.{Checked}
 
@@ -16,8 +13,3 @@ layout_of k =
 abbrev pub told : Result Checked ImageFault → Result Layout ImageFault
 told (Ok k) = Ok (layout_of k)
 told (Err e) = Err e
-
--- a geometry's answer as the bounds have it
-abbrev pub shape_told : Result Geometry TrailerField → Result Shape TrailerField
-shape_told (Ok g) = Ok (shape_of g)
-shape_told (Err f) = Err f

@@ -5,3 +5,4 @@ pub mod Refusals
 pub mod Layers
 pub mod Fresh
 pub mod Blank
+pub mod Texts

@@ -1,12 +1,14 @@
-ghost use Rattle.std.specs.Prelude.{◌≡◌};
+ghost use Rattle.std.specs.Prelude.{◌≡◌, Some};
 ghost use Rattle.drives.specs.Drives.{shape_of};
 ghost use Rattle.images.specs.declared.blank.BlankFault.TheVariants.{OutOfBounds, NoMemory};
 ghost use Rattle.images.specs.Blank.{trailer, BlankAnswer};
+ghost use Rattle.images.specs.Texts.{blank_text};
 
 use crate::refusal::TrailerField;
-use crate::trailer::bounded_geometry;
 use drives::geometry::Geometry;
 use std::alloc::{AllocError, Global};
+use std::error::Error;
+use std::fmt;
 use units::layout::area;
 
 // Why there is no blank image.
@@ -32,6 +34,19 @@ impl From<AllocError> for BlankFault {
     }
 }
 
+impl fmt::Display for BlankFault {
+    ghost output = { λ fault. Some (blank_text fault) };
+
+    fn fmt<W: fmt::Write>(&self, f: &mut fmt::Formatter<W>) -> fmt::Result {
+        f.write_str(match self {
+            BlankFault::OutOfBounds(_) => "the geometry is out of bounds",
+            BlankFault::NoMemory => "there is no memory for the image",
+        })
+    }
+}
+
+impl Error for BlankFault {}
+
 // A blank image of a geometry: all slots 00, then the trailer, and nothing before the first slot.
 pub fn blank_image(
     heap: Global,
@@ -42,7 +57,7 @@ pub fn blank_image(
 ) -> Result<Vec<u8>, BlankFault>
     ensures { BlankAnswer cylinders heads slots length result }
 {
-    let geometry = bounded_geometry(cylinders, heads, slots, length)?;
+    let geometry = Geometry::new(cylinders, heads, slots, length).map_err(TrailerField::from)?;
     let mut bytes = vec![in heap; 0u8; area(geometry)]?;
     bytes.extend_from_slice(&trailer_of(geometry))?;
     Ok(bytes)

@@ -102,8 +102,7 @@ pub fn end_image(image: Image<'_>) -> &mut [u8]
 {
     let Unit { state: _, memory } = image;
     let Lent { bytes } = memory;
-    let whole = bytes;
-    whole
+    bytes
 }
 
 // A new unit over an image in memory of its own.

@@ -1,8 +1,11 @@
-ghost use Rattle.std.specs.Prelude.{◌≡◌, map};
+ghost use Rattle.std.specs.Prelude.{◌≡◌, Some, map};
 ghost use Rattle.images.specs.Layers.{unit_told, unit_verdict, string_told, string_verdict, with_unit};
+ghost use Rattle.images.specs.Texts.{refusal_text};
 
 use crate::refusal::ImageFault;
 use crate::trailer::{Checked, check_image};
+use std::error::Error;
+use std::fmt;
 
 // A refused image as its unit passes it up: with the position of the byte that it is about.
 #[derive(Clone, Copy, Debug, PartialEq, Eq)]
@@ -18,23 +21,34 @@ pub struct StringRefusal {
     pub refusal: UnitRefusal,
 }
 
+impl fmt::Display for StringRefusal {
+    ghost output = { λ r. Some (refusal_text r) };
+
+    fn fmt<W: fmt::Write>(&self, f: &mut fmt::Formatter<W>) -> fmt::Result {
+        let UnitRefusal { fault, position } = self.refusal;
+        let number = fault.number();
+        let unit = self.unit;
+        write!(f, "refused {number}, unit {unit}, byte {position}")
+    }
+}
+
+impl Error for StringRefusal {}
+
 // Checks the image of a unit.
 pub fn check_unit(bytes: &[u8]) -> Result<Checked, UnitRefusal>
     ensures { unit_told result ≡ unit_verdict bytes.now }
 {
-    let checked = check_image(bytes).map_err(|fault| UnitRefusal {
+    Ok(check_image(bytes).map_err(|fault| UnitRefusal {
         fault,
         position: fault.position(bytes.len()),
-    })?;
-    Ok(checked)
+    })?)
 }
 
 // Checks the image of the unit of that number in its string.
 pub fn check_unit_of_string(unit: usize, bytes: &[u8]) -> Result<Checked, StringRefusal>
     ensures { string_told result ≡ with_unit (unit_verdict bytes.now) unit }
 {
-    let checked = check_unit(bytes).map_err(|refusal| StringRefusal { unit, refusal })?;
-    Ok(checked)
+    Ok(check_unit(bytes).map_err(|refusal| StringRefusal { unit, refusal })?)
 }
 
 // Checks the images of a string's units, in their order; the first that is refused is passed up.

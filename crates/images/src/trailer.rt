@@ -1,6 +1,6 @@
 ghost use Rattle.std.specs.Prelude.{◌≡◌, ◌≤◌, ◌&&◌, ◌==◌, slice_index};
-ghost use Rattle.images.specs.Trailer.{in_bounds, verdict, judged};
-ghost use Rattle.images.specs.Checks.{told, shape_told};
+ghost use Rattle.images.specs.Trailer.{verdict, judged};
+ghost use Rattle.images.specs.Checks.{told};
 
 use crate::refusal::{ImageFault, TrailerField};
 use drives::geometry::Geometry;
@@ -71,34 +71,29 @@ fn is_mark(bytes: [u8; 4]) -> bool
     bytes == *b"7261"
 }
 
-// A geometry within the bounds of an image, or the first number that is not.
-pub fn bounded_geometry(
-    cylinders: u16,
-    heads: u8,
-    slots: u8,
-    length: u16,
-) -> Result<Geometry, TrailerField>
-    ensures { shape_told result ≡ in_bounds cylinders heads slots length }
-{
-    let geometry = Geometry::new(cylinders, heads, slots, length)?;
-    Ok(geometry)
-}
-
 // What the fields of an image of so many bytes say.
 fn judge(size: usize, fields: Fields) -> Result<Checked, ImageFault>
     requires { 16 ≤ size }
     ensures { told result ≡ judged size fields.cylinders fields.heads fields.slots fields.length fields.zeros fields.distance }
 {
-    let geometry = bounded_geometry(fields.cylinders, fields.heads, fields.slots, fields.length)?;
-    if fields.zeros != 0 {
+    let Fields {
+        cylinders,
+        heads,
+        slots,
+        length,
+        zeros,
+        distance,
+    } = fields;
+    let geometry = Geometry::new(cylinders, heads, slots, length).map_err(TrailerField::from)?;
+    if zeros != 0 {
         return Err(ImageFault::OutOfBounds(TrailerField::Zeros));
     }
     let room = size - 16;
-    if fields.distance != area(geometry) || fields.distance > room {
+    if distance != area(geometry) || distance > room {
         return Err(ImageFault::WrongDistance);
     }
     Ok(Checked {
         geometry,
-        first: room - fields.distance,
+        first: room - distance,
     })
 }

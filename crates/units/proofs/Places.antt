@@ -1,5 +1,5 @@
 -- Places of a unit over a row of bytes.
-use Rattle.std.proofs.Common.{◌≡◌, ℕ, zero, suc, ◌+◌, ◌-◌, ◌*◌, ◌/◌, ◌^◌, ◌<◌, ◌≤◌, min, Bool, true, false, cond, not, ◌&&◌, List, [], ◌∷◌, length, get_or, set, sym, refl, ap, ◌∙◌, subst, ap₂, arith, length-set}
+use Rattle.std.proofs.Common.{◌≡◌, ℕ, zero, suc, ◌+◌, ◌-◌, ◌*◌, ◌/◌, ◌^◌, ◌<◌, ◌≤◌, min, Bool, true, false, cond, not, ◌&&◌, List, [], ◌∷◌, length, get_or, set, sym, refl, ap, ◌∙◌, subst, ap₂, arith, rules, length-set}
 use mathlib.Core.Path.{fun_ext}
 use Rattle.std.proofs.lemmas.Bool.Decides.{nat_tests}
 use Rattle.std.proofs.lemmas.Bool.{cond-true, cond-false, and_left}
@@ -52,13 +52,13 @@ changes_none d (suc u) f n = refl
 pub no_mark_changes : (p : Part) (h s : ℕ) (value : Bool) (d : Drive) → is_place d.shape d.cylinder h s ≡ false → with_mark p h s value d ≡ d
 unfolding with_mark
 no_mark_changes p h s value d e =
-    ap (λ m. record { shape = d.shape; lines = d.lines; held = d.held; cylinder = d.cylinder; marks = m; bytes = d.bytes })
+    ap (λ m. record d { marks = m })
     (fun_ext (λ p'. fun_ext (λ c'. fun_ext (λ h'. fun_ext (λ s'. cond-false _ _ _ (and_left _ _ e))))))
 
 pub no_byte_changes : (p : Part) (h s i value : ℕ) (d : Drive) → is_byte d.shape p d.cylinder h s i ≡ false → with_byte p h s i value d ≡ d
 unfolding with_byte
 no_byte_changes p h s i value d e =
-    ap (λ b. record { shape = d.shape; lines = d.lines; held = d.held; cylinder = d.cylinder; marks = d.marks; bytes = b })
+    ap (λ b. record d { bytes = b })
     (fun_ext (λ p'. fun_ext (λ c'. fun_ext (λ h'. fun_ext (λ s'. fun_ext (λ i'. cond-false _ _ _ (and_left _ _ e)))))))
 
 -- a unit by its parts
@@ -172,11 +172,7 @@ standing_next : (direction : Direction) (cylinders n : ℕ) → min (next_cylind
 standing_next Inward cylinders n = grind (arith, nat_tests)
 standing_next Outward cylinders n = omega arith
 
--- a state with its heads elsewhere
-abbrev pub at_cylinder : ℕ → State → State
-at_cylinder n st = record { layout = st.layout; cylinder = n; ready = st.ready; protect = st.protect; fault = st.fault }
-
-pub heads_moved : (direction : Direction) (st : State) (row : List ℕ) (u : ℕ) → u ≡ 0 → alone (at_cylinder (next_cylinder direction (shape_in st.layout (length row)).cylinders (standing st (length row))) st) row ≡ changed (alone st row) u (pulsed direction)
+pub heads_moved : (direction : Direction) (st : State) (row : List ℕ) (u : ℕ) → u ≡ 0 → alone (record st { cylinder = next_cylinder direction (shape_in st.layout (length row)).cylinders (standing st (length row)) }) row ≡ changed (alone st row) u (pulsed direction)
 unfolding unit_of with_cylinder
 heads_moved direction st row u e =
     let g : Shape = shape_in st.layout (length row) in
@@ -186,26 +182,17 @@ heads_moved direction st row u e =
 with_lines : (Line → Bool) → State → List ℕ → Drive
 with_lines lines st row = over (shape_in st.layout (length row)) lines (standing st (length row)) st.layout.first row
 
+-- the lines of a unit that is not held
+one_line : (line : Line) (value : Bool) (st : State) (l : Line) → lines_of (with_state_line line value st) l ≡ cond (same_line line l && not (same_line line Protect && false)) value (lines_of st l)
+one_line Ready value st l = grind rules
+one_line Protect value st l = grind rules
+one_line Fault value st l = grind rules
+
 unit_line : (line : Line) (value : Bool) (st : State) (row : List ℕ) → unit_of (with_state_line line value st) row ≡ with_line line value (unit_of st row)
 unfolding unit_of with_line with_lines
-unit_line Ready value st row = ap (λ ls. with_lines ls st row) (fun_ext each)
-  where
-    each : (l : Line) → lines_of (with_state_line Ready value st) l ≡ cond (same_line Ready l && not (same_line Ready Protect && false)) value (lines_of st l)
-    each Ready = refl
-    each Protect = refl
-    each Fault = refl
-unit_line Protect value st row = ap (λ ls. with_lines ls st row) (fun_ext each)
-  where
-    each : (l : Line) → lines_of (with_state_line Protect value st) l ≡ cond (same_line Protect l && not (same_line Protect Protect && false)) value (lines_of st l)
-    each Ready = refl
-    each Protect = refl
-    each Fault = refl
-unit_line Fault value st row = ap (λ ls. with_lines ls st row) (fun_ext each)
-  where
-    each : (l : Line) → lines_of (with_state_line Fault value st) l ≡ cond (same_line Fault l && not (same_line Fault Protect && false)) value (lines_of st l)
-    each Ready = refl
-    each Protect = refl
-    each Fault = refl
+unit_line Ready value st row = ap (λ ls. with_lines ls st row) (fun_ext (one_line Ready value st))
+unit_line Protect value st row = ap (λ ls. with_lines ls st row) (fun_ext (one_line Protect value st))
+unit_line Fault value st row = ap (λ ls. with_lines ls st row) (fun_ext (one_line Fault value st))
 
 pub line_set : (line : Line) (value : Bool) (st : State) (row : List ℕ) (u : ℕ) → u ≡ 0 → alone (with_state_line line value st) row ≡ changed (alone st row) u (with_line line value)
 line_set line value st row u e = ap (λ d. d ∷ []) (unit_line line value st row) ∙ sym (changed_here (unit_of st row) u (with_line line value) e)

@@ -32,9 +32,9 @@ lines_of st Fault = st.fault
 
 -- one line of a state set
 abbrev pub with_state_line : Line → Bool → State → State
-with_state_line Ready value st = record { layout = st.layout; cylinder = st.cylinder; ready = value; protect = st.protect; fault = st.fault }
-with_state_line Protect value st = record { layout = st.layout; cylinder = st.cylinder; ready = st.ready; protect = value; fault = st.fault }
-with_state_line Fault value st = record { layout = st.layout; cylinder = st.cylinder; ready = st.ready; protect = st.protect; fault = value }
+with_state_line Ready value st = record st { ready = value }
+with_state_line Protect value st = record st { protect = value }
+with_state_line Fault value st = record st { fault = value }
 
 -- the unit
 unfoldable pub unit_of : State → List ℕ → Drive
