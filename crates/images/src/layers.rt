@@ -57,7 +57,7 @@ pub fn check_string(images: &[&[u8]]) -> Result<(), StringRefusal>
     ensures { result ≡ string_verdict 0 (map (λ x. x.now) images.now) }
 {
     for (unit, image) in images.iter().enumerate() {
-        let _checked = check_unit_of_string(unit, image)?;
+        check_unit_of_string(unit, image)?;
     }
     Ok(())
 }
