@@ -2,11 +2,9 @@
 use Rattle.std.specs.Prelude.{ℕ, ◌+◌, List, [], ◌∷◌, length, Ok, Err, Result}
 use Rattle.units.specs.declared.layout.Layout.{Layout}
 use Rattle.images.specs.declared.refusal.ImageFault.{ImageFault}
-use Rattle.images.specs.declared.trailer.Checked.{Checked}
 use Rattle.images.specs.declared.layers.UnitRefusal.{UnitRefusal}
 use Rattle.images.specs.declared.layers.StringRefusal.{StringRefusal}
 use Rattle.images.specs.Trailer.{verdict}
-use Rattle.images.specs.Checks.{layout_of}
 use Rattle.images.specs.Refusals.{fault_position}
 
 -- the unit adds the position of the byte, in an image of n bytes
@@ -22,15 +20,6 @@ with_unit (Err r) u = Err (record { unit = u; refusal = r })
 -- the verdict on a unit's image
 abbrev pub unit_verdict : List ℕ → Result Layout UnitRefusal
 unit_verdict image = with_position (verdict image) (length image)
-
--- a unit's answer as the verdict has it
-abbrev pub unit_told : Result Checked UnitRefusal → Result Layout UnitRefusal
-unit_told (Ok k) = Ok (layout_of k)
-unit_told (Err r) = Err r
-
-abbrev pub string_told : Result Checked StringRefusal → Result Layout StringRefusal
-string_told (Ok k) = Ok (layout_of k)
-string_told (Err r) = Err r
 
 -- the first image that is refused, of the units from u on
 abbrev pub after : Result Layout StringRefusal → Result (Unit {0}) StringRefusal → Result (Unit {0}) StringRefusal

@@ -1,5 +1,6 @@
 ghost use Rattle.std.specs.Prelude.{◌≡◌, Some, map};
-ghost use Rattle.images.specs.Layers.{unit_told, unit_verdict, string_told, string_verdict, with_unit};
+ghost use Rattle.images.specs.Checks.{told};
+ghost use Rattle.images.specs.Layers.{unit_verdict, string_verdict, with_unit};
 ghost use Rattle.images.specs.Texts.{refusal_text};
 
 use crate::refusal::ImageFault;
@@ -36,7 +37,7 @@ impl Error for StringRefusal {}
 
 // Checks the image of a unit.
 pub fn check_unit(bytes: &[u8]) -> Result<Checked, UnitRefusal>
-    ensures { unit_told result ≡ unit_verdict bytes.now }
+    ensures { told result ≡ unit_verdict bytes.now }
 {
     Ok(check_image(bytes).map_err(|fault| UnitRefusal {
         fault,
@@ -46,7 +47,7 @@ pub fn check_unit(bytes: &[u8]) -> Result<Checked, UnitRefusal>
 
 // Checks the image of the unit of that number in its string.
 pub fn check_unit_of_string(unit: usize, bytes: &[u8]) -> Result<Checked, StringRefusal>
-    ensures { string_told result ≡ with_unit (unit_verdict bytes.now) unit }
+    ensures { told result ≡ with_unit (unit_verdict bytes.now) unit }
 {
     Ok(check_unit(bytes).map_err(|refusal| StringRefusal { unit, refusal })?)
 }
@@ -56,7 +57,7 @@ pub fn check_string(images: &[&[u8]]) -> Result<(), StringRefusal>
     ensures { result ≡ string_verdict 0 (map (λ x. x.now) images.now) }
 {
     for (unit, image) in images.iter().enumerate() {
-        let _checked = check_unit_of_string(unit, image)?;
+        check_unit_of_string(unit, image)?;
     }
     Ok(())
 }

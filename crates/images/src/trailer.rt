@@ -25,6 +25,7 @@ struct Fields {
 }
 
 // Checks an image: reads its last sixteen bytes and nothing else.
+#[tactic(auto, unfolding(crate::specs::Trailer::verdict))]
 pub fn check_image(bytes: &[u8]) -> Result<Checked, ImageFault>
     ensures { told result ≡ verdict bytes.now }
 {
