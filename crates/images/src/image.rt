@@ -139,3 +139,25 @@ pub fn new_rack_cartridge() -> RackUnit
 {
     cartridge_over(RackMemory::Cartridge(Cells::new()))
 }
+
+#[cfg(test)]
+mod tests {
+    use super::*;
+    use drives::collar::Collar;
+    use drives::parts::Line;
+    use drives::string::DriveString;
+
+    // A collar on a loan holds the unit for as long as it is on, and no longer.
+    #[test]
+    fn a_lent_unit_comes_back(rt: HostRuntime) {
+        let mut cartridge = new_cartridge();
+        let mut collar = Collar {
+            string: &mut cartridge,
+        };
+        collar.set_line(0, Line::Protect, false);
+        collar.set_line(0, Line::Fault, true);
+        assert!(rt; collar.line(0, Line::Protect), "held");
+        assert!(rt; cartridge.line(0, Line::Fault), "set through the loan");
+        assert!(rt; !cartridge.line(0, Line::Protect), "held no longer");
+    }
+}

@@ -35,7 +35,7 @@ impl fmt::Display for StringRefusal {
 
 impl Error for StringRefusal {}
 
-// Checks the image of a unit.
+// Checks the image of a unit. A refusal goes up by `?` on each layer, a form that is fixed.
 pub fn check_unit(bytes: &[u8]) -> Result<Checked, UnitRefusal>
     ensures { told result ≡ unit_verdict bytes.now }
 {
