@@ -76,7 +76,7 @@ no_places n = grind (arith, nat_tests)
 
 pub refused_none : RefusedImagesHaveNoPlaces
 refused_none image f e =
-    subst (λ (st : State). NewUnit (unit_of st image) no_shape false) (sym (ap fresh_from e)) (new_unit no_layout false image no_shape (no_places (length image)))
+    rw (e) (new_unit no_layout false image no_shape (no_places (length image)))
 
 -- ---- what the verdict reads
 
@@ -116,16 +116,13 @@ ended n t e =
 distance : (n : ℕ) → n < 2 ^ 32 → ((n / 0x1000000 % 256 * 256 + n / 0x10000 % 256) * 256 + n / 0x100 % 256) * 256 + n % 256 ≡ n
 distance n l = omega arith
 
-halves : (x : ℕ) → x / 256 * 256 + x % 256 ≡ x
-halves x = omega arith
-
 placed_blank : (n : ℕ) (g : Shape) → n ≡ area g → placed (n + 16) 0 n g ≡ Ok (record { first = 0; cylinders = g.cylinders; heads = g.heads; slots = g.slots; length = g.length })
 placed_blank n g e = grind (arith, nat_tests)
 
 read_blank : (n : ℕ) (g : Shape) → n ≡ area g → in_bounds g.cylinders g.heads g.slots g.length ≡ Ok g → n < 2 ^ 32 → read (n + 16) (λ k. get_or (trailer g) (16 - k) 0) ≡ placed (n + 16) 0 n g
 unfolding read
 read_blank n g e b m =
-    let fields : judged (n + 16) (g.cylinders / 256 * 256 + g.cylinders % 256) g.heads g.slots (g.length / 256 * 256 + g.length % 256) 0 (((area g / 0x1000000 % 256 * 256 + area g / 0x10000 % 256) * 256 + area g / 0x100 % 256) * 256 + area g % 256) ≡ judged (n + 16) g.cylinders g.heads g.slots g.length 0 n = cc (halves g.cylinders, halves g.length, distance n m, e) in
+    let fields : judged (n + 16) (g.cylinders / 256 * 256 + g.cylinders % 256) g.heads g.slots (g.length / 256 * 256 + g.length % 256) 0 (((area g / 0x1000000 % 256 * 256 + area g / 0x10000 % 256) * 256 + area g / 0x100 % 256) * 256 + area g % 256) ≡ judged (n + 16) g.cylinders g.heads g.slots g.length 0 n = grind (arith, distance) in
     cond-false _ _ _ (le-ltb (n + 16) 16 (omega arith)) ∙ (fields ∙ ap (λ r. then_placed r (n + 16) 0 n) b)
 
 small : (c h s l : ℕ) → (within 1 2048 c && (within 1 8 h && (within 1 32 s && within 128 4095 l))) ≡ true → c * h * s * (l + 11) < 2 ^ 32
