@@ -1,14 +1,12 @@
 -- The theorems on images.
-use Rattle.std.proofs.Common.{◌≡◌, ℕ, ◌+◌, ◌-◌, ◌*◌, ◌/◌, ◌%◌, ◌^◌, ◌<◌, ◌≤◌, Bool, true, false, cond, ◌&&◌, eqb, ltb, leb, List, ◌++◌, length, get_or, replicate, Ok, Err, Result, sym, refl, ap, ◌∙◌, subst, arith, length-append}
-use lib.ListN.{length-replicate}
+use Rattle.std.proofs.Common.{◌≡◌, ℕ, ◌+◌, ◌-◌, ◌*◌, ◌/◌, ◌%◌, ◌^◌, ◌<◌, ◌≤◌, Bool, true, false, cond, ◌&&◌, eqb, ltb, leb, List, ◌++◌, length, get_or, replicate, Ok, Err, Result, sym, refl, ap, ◌∙◌, arith}
 use Rattle.std.proofs.lemmas.Nat.{mul-le}
-use Rattle.std.proofs.lemmas.Bool.{cond-true, cond-false, le-ltb, or_left}
+use Rattle.std.proofs.lemmas.Bool.{cond-true, cond-false, le-ltb}
 use Rattle.std.proofs.lemmas.Bool.Decides.{nat_tests}
 use Rattle.std.proofs.lemmas.Grind.{common_steps}
 use Rattle.drives.specs.Bounds.{within, bounded}
 use Rattle.drives.specs.Drives.{Shape, no_shape}
 use Rattle.units.specs.declared.layout.Layout.{Layout}
-use Rattle.units.specs.declared.unit.State.{State}
 use Rattle.units.specs.Rows.{area}
 use Rattle.units.specs.Units.{said, fits, shape_in, unit_of}
 use Rattle.images.specs.declared.refusal.TrailerField.{TrailerField}
@@ -16,7 +14,7 @@ use Rattle.images.specs.declared.refusal.TrailerField.TheVariants.{Zeros}
 use Rattle.images.specs.declared.refusal.ImageFault.{ImageFault}
 use Rattle.images.specs.declared.refusal.ImageFault.TheVariants.{TooShort, NotMarked, OutOfBounds, WrongDistance}
 use Rattle.images.specs.Trailer.{last, marked, in_bounds, placed, then_placed, judged, verdict}
-use Rattle.images.specs.Fresh.{no_layout, new, fresh_from}
+use Rattle.images.specs.Fresh.{no_layout, new}
 use Rattle.images.specs.Blank.{blank, trailer}
 use Rattle.laws.specs.OfImages.{NewUnit, AcceptedImagesHaveTheirShape, RefusedImagesHaveNoPlaces, BlankImagesAreAccepted, WorkedDistances, ReadOnlyTheTrailer}
 
@@ -40,16 +38,14 @@ asked : (c h s l : ℕ) (g : Shape) → in_bounds c h s l ≡ Ok g → ((within 
 asked c h s l g e = grind (arith, nat_tests)
 
 asked_bounded : (c h s l : ℕ) (g : Shape) → in_bounds c h s l ≡ Ok g → bounded g.cylinders g.heads g.slots g.length ≡ true
-asked_bounded c h s l g e =
-    let a = asked c h s l g e in
-    subst (λ (x : Shape). bounded x.cylinders x.heads x.slots x.length ≡ true) a.1 (or_left _ _ a.0)
+asked_bounded c h s l g e = grind (arith, nat_tests)
 
 placed_fits : (n z d : ℕ) (g : Shape) (l : Layout) → bounded g.cylinders g.heads g.slots g.length ≡ true → placed n z d g ≡ Ok l → fits l n ≡ true
 placed_fits n z d g l b e =
     let k : Layout = record { first = n - 16 - d; cylinders = g.cylinders; heads = g.heads; slots = g.slots; length = g.length } in
     let a = in_place (eqb d (area g)) (leb d (n - 16)) (eqb z 0) k l e in
     let fit : fits k n ≡ true = grind (arith, nat_tests) in
-    subst (λ (x : Layout). fits x n ≡ true) a.1 fit
+    rw (← a.1) fit
 
 judged_fits : (n c h s len z d : ℕ) (r : Result Shape TrailerField) (l : Layout) → in_bounds c h s len ≡ r → then_placed r n z d ≡ Ok l → fits l n ≡ true
 judged_fits n c h s len z d (Ok g) l b e = placed_fits n z d g l (asked_bounded c h s len g b) e
@@ -68,15 +64,14 @@ pub accepted_shape : AcceptedImagesHaveTheirShape
 accepted_shape image l e =
     let fit = accepted_fits image l e in (
       fit,
-      subst (λ (st : State). NewUnit (unit_of st image) (said l) true) (sym (ap fresh_from e)) (new_unit l true image (said l) (cond-true _ _ _ fit)),
+      rw e (new_unit l true image (said l) (cond-true _ _ _ fit)),
     )
 
 no_places : (n : ℕ) → shape_in no_layout n ≡ no_shape
 no_places n = grind (arith, nat_tests)
 
 pub refused_none : RefusedImagesHaveNoPlaces
-refused_none image f e =
-    rw (e) (new_unit no_layout false image no_shape (no_places (length image)))
+refused_none image f e = rw e (new_unit no_layout false image no_shape (no_places (length image)))
 
 -- ---- what the verdict reads
 
@@ -98,19 +93,19 @@ unfolding read
 read_same n t t' f = grind (arith, f)
 
 pub only_the_trailer : ReadOnlyTheTrailer
-only_the_trailer xs ys e f = verdict_reads xs ∙ (read_same (length xs) (last xs) (last ys) f ∙ (ap (λ n. read n (last ys)) e ∙ sym (verdict_reads ys)))
+only_the_trailer xs ys e f = rw (verdict_reads xs, verdict_reads ys, read_same _ (last xs) (last ys) f, e)
 
 -- ---- blank images
 
 -- a byte of the tail, from the end
 at_end : (n : ℕ) (t : List ℕ) (k : ℕ) → k ≤ length t → last (replicate n 0 ++ t) k ≡ get_or t (length t - k) 0
-at_end n t k e =
-    grind (arith, common_steps)
+at_end n t k e = grind (arith, common_steps)
 
 -- an image that ends with sixteen bytes
 ended : (n : ℕ) (t : List ℕ) → length t ≡ 16 → verdict (replicate n 0 ++ t) ≡ read (n + 16) (λ k. get_or t (16 - k) 0)
 ended n t e =
-    verdict_reads _ ∙ (read_same _ _ _ (λ k l m. at_end n t k (omega arith) ∙ ap (λ j. get_or t (j - k) 0) e) ∙ ap (λ j. read j (λ k. get_or t (16 - k) 0)) (omega (arith, length-append (replicate n 0) t, length-replicate {A = ℕ} n 0)))
+    let size : length (replicate n 0 ++ t) ≡ n + 16 = grind (arith, common_steps) in
+    rw (verdict_reads, read_same _ (last (replicate n 0 ++ t)) (λ k. get_or t (16 - k) 0) (λ k l m. rw (← e) (at_end n t k (omega arith))), size)
 
 -- numbers from their bytes
 distance : (n : ℕ) → n < 2 ^ 32 → ((n / 0x1000000 % 256 * 256 + n / 0x10000 % 256) * 256 + n / 0x100 % 256) * 256 + n % 256 ≡ n

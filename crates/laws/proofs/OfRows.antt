@@ -1,18 +1,18 @@
 -- The theorems on rows.
-use Rattle.std.proofs.Common.{◌≡◌, ℕ, zero, suc, ◌+◌, ◌-◌, ◌*◌, ◌/◌, ◌%◌, ◌<◌, ◌≤◌, Bool, true, false, ◌&&◌, eqb, ltb, leb, List, length, get_or, set, sym, refl, ap, ◌∙◌, subst, ap₂, ⊎_elim, arith}
+use Rattle.std.proofs.Common.{◌≡◌, ℕ, ◌+◌, ◌-◌, ◌*◌, ◌/◌, ◌%◌, ◌<◌, ◌≤◌, Bool, true, false, ◌&&◌, eqb, ltb, leb, List, length, get_or, set, sym, refl, ap, ◌∙◌, ⊎_elim, arith}
 use Rattle.std.proofs.lemmas.Nat.{div-add-mod', div_below, mod_below}
 use Rattle.std.proofs.lemmas.List.{ext_get_or}
-use Rattle.std.proofs.lemmas.Bool.{cases_lt, cases_eq, cases_Bool, cond-true, cond-false, and_parts, ltb-true}
+use Rattle.std.proofs.lemmas.Bool.{cases_Bool, cond-true, cond-false, and_parts, ltb-true}
 use Rattle.std.proofs.lemmas.Bool.Decides.{nat_tests}
 use Rattle.drives.specs.declared.parts.Part.{Part}
 use Rattle.drives.specs.declared.parts.Part.TheVariants.{Id, Data}
-use Rattle.drives.specs.Drives.{Drive, Shape, is_place, is_byte, part_size}
-use Rattle.drives.specs.Sound.{Rest, nothing, memory, both}
+use Rattle.drives.specs.Drives.{Shape, is_place, is_byte, part_size}
+use Rattle.drives.specs.Sound.{memory}
 use Rattle.units.specs.declared.layout.Layout.{Layout}
 use Rattle.drives.specs.Changes.{with_cylinder, with_line, with_mark, with_byte}
 use Rattle.units.specs.declared.unit.State.{State}
 use Rattle.units.specs.Rows.{slot_size, slot_at, area, part_start, mark_bit, with_bit, marks_in, bytes_in, besides}
-use Rattle.units.specs.Units.{said, fits, shape_in, standing, lines_of, unit_of, rest_of}
+use Rattle.units.specs.Units.{said, shape_in, standing, lines_of, unit_of, rest_of}
 use Rattle.laws.specs.OfStrings.{step, line_to, mark_to, byte_to}
 use Rattle.laws.specs.OfRows.{WhereThingsLie, EveryByteIsNamed, row_after, ExactlyThatByteChanges}
 use Rattle.units.proofs.Places.{row_holds, no_mark_changes, no_byte_changes, mark_set, byte_set, mark_rest, byte_rest, written, rest_written}
@@ -26,27 +26,22 @@ is_there g c h s lc lh ls = grind (arith, nat_tests)
 is_there_byte : (g : Shape) (p : Part) (c h s i : ℕ) → c < g.cylinders → h < g.heads → s < g.slots → i < part_size g p → is_byte g p c h s i ≡ true
 is_there_byte g p c h s i lc lh ls li = grind (arith, nat_tests)
 
-fitting : (l : Layout) (n : ℕ) → fits l n ≡ true → l.first + area (said l) ≤ n
-fitting l n e = grind (arith, nat_tests)
-
 pub where_they_lie : WhereThingsLie
 unfolding unit_of marks_in bytes_in slot_at
 where_they_lie st row p c h s e lc lh ls =
     let l : Layout = st.layout in
-    let whole : shape_in l (length row) ≡ said l = cond-true _ _ _ e in (
-      omega (arith, fitting l (length row) e, slot_inside (said l) c h s lc lh ls),
-      ap (λ g. marks_in g l.first row p c h s) whole ∙ cond-true _ _ _ (is_there (said l) c h s lc lh ls),
-      λ i li.
-          ap (λ g. bytes_in g l.first row p c h s i) whole
-          ∙ (cond-true _ _ _ (is_there_byte (said l) p c h s i lc lh ls li) ∙ ap (λ k. get_or row k 0) (omega arith)),
+    let whole : shape_in l (length row) ≡ said l = cond-true _ _ _ e in
+    let lies : l.first + area (said l) ≤ length row = grind (arith, nat_tests) in (
+      omega (arith, lies, slot_inside (said l) c h s lc lh ls),
+      rw whole (cond-true _ _ _ (is_there (said l) c h s lc lh ls)),
+      λ i li. rw whole (cond-true _ _ _ (is_there_byte (said l) p c h s i lc lh ls li) ∙ ap (λ k. get_or row k 0) (omega arith)),
     )
 
 -- ---- every byte is named
 
 -- a product above some number has no factor 0
 positive : (a b n : ℕ) → n < a * b → 0 < b
-positive a zero n l = absurd (omega arith)
-positive a (suc b) n l = omega arith
+positive a b n l = grind (arith, nat_tests)
 
 -- the place of byte o of the area: its slot, counted over all tracks, and that slot's number, head and cylinder
 module _ (g : Shape) (o : ℕ) where
@@ -89,9 +84,7 @@ module _ (g : Shape) (o : ℕ) where
   -- and there it lies
   placed_at : slot_at g cyl head slot + o % (g.length + 11) ≡ o
   unfolding slot_at q slot track head cyl
-  placed_at =
-      ap (λ t. (t * g.slots + slot) * (g.length + 11) + o % (g.length + 11)) (div-add-mod' track g.heads)
-      ∙ (ap (λ t. t * (g.length + 11) + o % (g.length + 11)) (div-add-mod' q g.slots) ∙ div-add-mod' o (g.length + 11))
+  placed_at = rw (div-add-mod' (o / (g.length + 11) / g.slots) g.heads, div-add-mod' (o / (g.length + 11)) g.slots, div-add-mod' o (g.length + 11))
 
 -- a byte is known by its two low bits and the others
 same_bit : (a b : ℕ) → eqb (a % 2) 1 ≡ eqb (b % 2) 1 → a % 2 ≡ b % 2
@@ -106,88 +99,51 @@ same_byte a b e f r =
 module _ (g : Shape) (first : ℕ) (xs ys : List ℕ) (em : (p : Part) (c h s : ℕ) → marks_in g first xs p c h s ≡ marks_in g first ys p c h s) (eb : (p : Part) (c h s i : ℕ) → bytes_in g first xs p c h s i ≡ bytes_in g first ys p c h s i) (er : (k : ℕ) → besides g first xs k ≡ besides g first ys k) where
   outside : (k : ℕ) → (leb first k && ltb k (first + area g)) ≡ false → get_or xs k 0 ≡ get_or ys k 0
   unfolding besides
-  outside k n = sym (cond-false _ _ _ n) ∙ (er k ∙ cond-false _ _ _ n)
+  outside k n = let e = er k in grind (arith, nat_tests)
 
   module _ (c h s : ℕ) (lc : c < g.cylinders) (lh : h < g.heads) (ls : s < g.slots) where
     mark_there : (p : Part) (k : ℕ) → first + slot_at g c h s ≡ k → mark_bit p (get_or xs k 0) ≡ mark_bit p (get_or ys k 0)
     unfolding marks_in
     mark_there p k e =
         let t = is_there g c h s lc lh ls in
-        subst (λ (j : ℕ). mark_bit p (get_or xs j 0) ≡ mark_bit p (get_or ys j 0)) e (sym (cond-true _ _ _ t) ∙ (em p c h s ∙ cond-true _ _ _ t))
+        let m = em p c h s in
+        grind (arith, nat_tests)
 
     byte_there : (p : Part) (i k : ℕ) → i < part_size g p → first + slot_at g c h s + (part_start p + i) ≡ k → get_or xs k 0 ≡ get_or ys k 0
     unfolding bytes_in
     byte_there p i k li e =
         let t = is_there_byte g p c h s i lc lh ls li in
-        subst (λ (j : ℕ). get_or xs j 0 ≡ get_or ys j 0) e (sym (cond-true _ _ _ t) ∙ (eb p c h s i ∙ cond-true _ _ _ t))
+        let b = eb p c h s i in
+        grind (arith, nat_tests)
 
     in_slot : (k r : ℕ) → (leb first k && ltb k (first + area g)) ≡ true → (k - first) % slot_size g ≡ r → r < g.length + 11 → first + slot_at g c h s + r ≡ k → get_or xs k 0 ≡ get_or ys k 0
     unfolding besides
     in_slot k r i er' lr e =
-        ⊎_elim
-        (λ (z : r ≡ 0).
-        let here : eqb ((k - first) % slot_size g) 0 ≡ true = grind (arith, nat_tests) in
-        let at : first + slot_at g c h s ≡ k = omega arith in
-        let rest : get_or xs k 0 / 4 ≡ get_or ys k 0 / 4 = sym (cond-true _ _ _ i ∙ cond-true _ _ _ here) ∙ (er k ∙ (cond-true _ _ _ i ∙ cond-true _ _ _ here)) in
-        same_byte (get_or xs k 0) (get_or ys k 0) (mark_there Id k at) (mark_there Data k at) rest)
-        (λ (n : r ≡ 0 → ⊥).
-        let some : 0 < r = omega arith in
-        ⊎_elim (λ (l : r < 7). byte_there Id (r - 1) k (omega arith) (omega arith))
-        (λ (l : 7 ≤ r). byte_there Data (r - 7) k (omega arith) (omega arith))
-        (cases_lt r 7))
-        (cases_eq r 0)
+        let marks : r ≡ 0 → get_or xs k 0 ≡ get_or ys k 0 = λ z. same_byte _ _ (mark_there Id k (omega arith)) (mark_there Data k (omega arith)) (let b = er k in grind (arith, nat_tests)) in
+        let id : 1 ≤ r → r < 7 → get_or xs k 0 ≡ get_or ys k 0 = λ a b. byte_there Id (r - 1) k (omega arith) (omega arith) in
+        let field : 7 ≤ r → get_or xs k 0 ≡ get_or ys k 0 = λ a. byte_there Data (r - 7) k (omega arith) (omega arith) in
+        grind (arith, marks, id, field)
 
   named : (k : ℕ) → get_or xs k 0 ≡ get_or ys k 0
   named k =
-      ⊎_elim
-      (λ (i : (leb first k && ltb k (first + area g)) ≡ true).
-      let low : first ≤ k = grind (arith, nat_tests) in
-      let high : k < first + area g = grind (arith, nat_tests) in
       let o : ℕ = k - first in
-      let inside : o < area g = omega arith in
-      in_slot (cyl g o) (head g o) (slot g o) (cyl_below g o inside) (head_below g o inside) (slot_below g o inside) k (o % (g.length + 11)) i refl (mod_below o (g.length + 11) (omega arith))
-      (omega (arith, placed_at g o)))
-      (λ n. outside k n)
-      (cases_Bool (leb first k && ltb k (first + area g)))
-
--- the parts of a memory
-size_of : Rest → ℕ
-size_of nothing = 0
-size_of (memory n first f) = n
-size_of (both ds a b) = 0
-
-first_of : Rest → ℕ
-first_of nothing = 0
-first_of (memory n first f) = first
-first_of (both ds a b) = 0
-
-holds_of : Rest → ℕ → ℕ
-holds_of nothing k = 0
-holds_of (memory n first f) k = f k
-holds_of (both ds a b) k = 0
+      let there : (leb first k && ltb k (first + area g)) ≡ true → get_or xs k 0 ≡ get_or ys k 0 = λ i.
+      let low : first ≤ k = grind (arith, nat_tests) in
+      let inside : o < area g = grind (arith, nat_tests) in
+      in_slot (cyl g o) (head g o) (slot g o) (cyl_below g o inside) (head_below g o inside) (slot_below g o inside) k (o % (g.length + 11)) i refl (mod_below o (g.length + 11) (omega arith)) (omega (arith, placed_at g o)) in
+      grind (arith, nat_tests, there, outside k)
 
 pub every_byte : EveryByteIsNamed
-unfolding unit_of size_of first_of holds_of
+unfolding unit_of
 every_byte st st' xs ys es em eb er =
-    let first : ℕ = st.layout.first in
-    let g : Shape = shape_in st.layout (length xs) in
-    let g' : Shape = shape_in st'.layout (length ys) in
-    let same : length xs ≡ length ys = ap size_of er in
-    let shape : g' ≡ g = sym es in
-    let begin : st'.layout.first ≡ first = sym (ap first_of er) in
-    ext_get_or 0 xs ys same
-    (λ k lk.
-    named g first xs ys
-    (λ p c h s. ap (λ (m : Part → ℕ → ℕ → ℕ → Bool). m p c h s) em ∙ ap₂ (λ (x : Shape) (b : ℕ). marks_in x b ys p c h s) shape begin)
-    (λ p c h s i. ap (λ (m : Part → ℕ → ℕ → ℕ → ℕ → ℕ). m p c h s i) eb ∙ ap₂ (λ (x : Shape) (b : ℕ). bytes_in x b ys p c h s i) shape begin)
-    (λ j. ap (λ (m : Rest). holds_of m j) er ∙ ap₂ (λ (x : Shape) (b : ℕ). besides x b ys j) shape begin)
-    k)
+    let same : length xs ≡ length ys = cc in
+    ext_get_or 0 xs ys same (λ k lk. named (shape_in st.layout (length xs)) st.layout.first xs ys (λ p c h s. cc) (λ p c h s i. cc) (λ j. cc) k)
 
 -- ---- exactly that byte changes
 
 -- the same unit and rest over another row
 same_unit : (st st' : State) (xs ys : List ℕ) → unit_of st' ys ≡ unit_of st xs → rest_of st' ys ≡ rest_of st xs → ys ≡ xs
-same_unit st st' xs ys eu er = every_byte st' st ys xs (ap (λ (d : Drive). d.shape) eu) (ap (λ (d : Drive). d.marks) eu) (ap (λ (d : Drive). d.bytes) eu) er
+same_unit st st' xs ys eu er = every_byte st' st ys xs (cc) (cc) (cc) er
 
 mark_changes : (st st' : State) (row row' : List ℕ) (p : Part) (h s : ℕ) (value : Bool) → unit_of st' row' ≡ with_mark p h s value (unit_of st row) → rest_of st' row' ≡ rest_of st row → row' ≡ row_after (mark_to p h s value) st row
 unfolding unit_of
@@ -227,7 +183,7 @@ byte_changes st st' row row' p h s i value eu er =
 
 pub exactly_that_byte : ExactlyThatByteChanges
 unfolding with_cylinder with_line
-exactly_that_byte st st' row row' (step direction) eu er = every_byte st' st row' row (ap (λ (d : Drive). d.shape) eu) (ap (λ (d : Drive). d.marks) eu) (ap (λ (d : Drive). d.bytes) eu) er
-exactly_that_byte st st' row row' (line_to line value) eu er = every_byte st' st row' row (ap (λ (d : Drive). d.shape) eu) (ap (λ (d : Drive). d.marks) eu) (ap (λ (d : Drive). d.bytes) eu) er
+exactly_that_byte st st' row row' (step direction) eu er = every_byte st' st row' row (cc) (cc) (cc) er
+exactly_that_byte st st' row row' (line_to line value) eu er = every_byte st' st row' row (cc) (cc) (cc) er
 exactly_that_byte st st' row row' (mark_to p h s value) eu er = mark_changes st st' row row' p h s value eu er
 exactly_that_byte st st' row row' (byte_to p h s i value) eu er = byte_changes st st' row row' p h s i value eu er
