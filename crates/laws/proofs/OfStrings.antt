@@ -1,7 +1,7 @@
 -- The theorems on changes.
-use Rattle.std.proofs.Common.{◌≡◌, ℕ, zero, suc, ◌-◌, ◌<◌, ◌≤◌, Bool, true, false, cond, not, ◌&&◌, eqb, ◌≢◌, List, [], ◌∷◌, length, get_or, refl, ap, ◌∙◌, subst, ⊎_elim, arith, length-set, get_or-set_other, get_or-set_same}
+use Rattle.std.proofs.Common.{◌≡◌, ℕ, zero, suc, ◌-◌, ◌<◌, ◌≤◌, Bool, true, false, cond, not, ◌&&◌, eqb, List, [], ◌∷◌, length, get_or, refl, sym, ap, ◌∙◌, arith, length-set, get_or-set_other, get_or-set_same}
 use Rattle.std.proofs.lemmas.List.{get_or_past}
-use Rattle.std.proofs.lemmas.Bool.{cases_lt, cond-true, cond-false, and_right, and_parts}
+use Rattle.std.proofs.lemmas.Bool.{cond-false, and_right, and_parts}
 use Rattle.std.proofs.lemmas.Bool.Decides.{nat_tests}
 use Rattle.drives.specs.declared.parts.Part.{Part}
 use Rattle.drives.specs.declared.parts.Part.TheVariants.{Id, Data}
@@ -9,7 +9,7 @@ use Rattle.drives.specs.declared.parts.Line.{Line}
 use Rattle.drives.specs.declared.parts.Line.TheVariants.{Ready, Protect, Fault}
 use Rattle.drives.specs.declared.parts.Direction.{Direction}
 use Rattle.drives.specs.declared.parts.Direction.TheVariants.{Inward, Outward}
-use Rattle.drives.specs.Drives.{Drive, Shape, drive, absent, is_place, is_byte, mark_here, byte_here}
+use Rattle.drives.specs.Drives.{Drive, drive, absent, is_place, is_byte, mark_here, byte_here}
 use Rattle.drives.specs.Changes.{changed, next_cylinder, with_cylinder, with_line, with_mark, with_byte, same_line, same_part, same_place}
 use Rattle.drives.specs.Sound.{SoundDrive}
 use Rattle.laws.specs.OfStrings.{Change, step, line_to, mark_to, byte_to, made, WhatNeverChanges, OtherUnitsStay, HeldStaysProtected, StringsStaySound, MarksReadBack, BytesReadBack}
@@ -46,36 +46,28 @@ unit_changed ds u f l = get_or-set_same ds u (f (get_or ds u absent)) absent l
 exists : (ds : List Drive) (u c h s : ℕ) → is_place (drive ds u).shape c h s ≡ true → u < length ds
 unfolding drive
 exists ds u c h s e =
-    ⊎_elim (λ l. l)
-    (λ l. absurd (let n : is_place absent.shape c h s ≡ true = subst (λ (d : Drive). is_place d.shape c h s ≡ true) (get_or_past ds u absent l) e in grind (arith, nat_tests)))
-    (cases_lt u (length ds))
+    let past : length ds ≤ u → ⊥ = λ l. let n = rw (get_or_past ds u absent l) at e in grind (arith, nat_tests) in
+    omega (arith, past)
 
 -- ---- what never changes
 
-same_shape : (change : Change) (d : Drive) → (made change d).shape ≡ d.shape
+same : (change : Change) (d : Drive) → ((made change d).shape ≡ d.shape) × ((made change d).held ≡ d.held)
 unfolding with_cylinder with_line with_mark with_byte
-same_shape (step direction) d = refl
-same_shape (line_to line value) d = refl
-same_shape (mark_to p h s value) d = refl
-same_shape (byte_to p h s i value) d = refl
-
-same_held : (change : Change) (d : Drive) → (made change d).held ≡ d.held
-unfolding with_cylinder with_line with_mark with_byte
-same_held (step direction) d = refl
-same_held (line_to line value) d = refl
-same_held (mark_to p h s value) d = refl
-same_held (byte_to p h s i value) d = refl
+same (step direction) d = (refl, refl)
+same (line_to line value) d = (refl, refl)
+same (mark_to p h s value) d = (refl, refl)
+same (byte_to p h s i value) d = (refl, refl)
 
 pub never_changes : WhatNeverChanges
 never_changes ds u change v = (
   changed_length ds u (made change),
-  kept (λ d. d.shape) (made change) (same_shape change) ds u v,
-  kept (λ d. d.held) (made change) (same_held change) ds u v,
+  kept (λ d. d.shape) (made change) (λ d. (same change d).0) ds u v,
+  kept (λ d. d.held) (made change) (λ d. (same change d).1) ds u v,
 )
 
 pub others_stay : OtherUnitsStay
 unfolding changed drive
-others_stay ds u f v n = let ne : v ≢ u = n in get_or-set_other ds u v (f (get_or ds u absent)) absent ne
+others_stay ds u f v n = get_or-set_other ds u v _ absent n
 
 -- ---- sound units
 
@@ -92,39 +84,19 @@ guarded Protect value false before e = refl
 same_part_is : (p p' : Part) → same_part p p' ≡ true → p ≡ p'
 same_part_is Id Id e = refl
 same_part_is Data Data e = refl
-same_part_is Id Data e = absurd (let z : ◌≡◌ {A = ℕ} 0 1 = cc in omega arith)
-same_part_is Data Id e = absurd (let z : ◌≡◌ {A = ℕ} 0 1 = cc in omega arith)
-
-no_mark_there : (g : Shape) (p p' : Part) (c h s c' h' s' : ℕ) (value before : Bool) → is_place g c' h' s' ≡ false → before ≡ false → cond (is_place g c h s && (same_part p p' && same_place c h s c' h' s')) value before ≡ false
-no_mark_there g p p' c h s c' h' s' value before n e = grind (arith, nat_tests)
-
-no_byte_there : (g : Shape) (p p' : Part) (c h s i c' h' s' i' value before : ℕ) → is_byte g p' c' h' s' i' ≡ false → before ≡ 0 → cond (is_byte g p c h s i && (same_part p p' && (same_place c h s c' h' s' && eqb i i'))) value before ≡ 0
-no_byte_there g p p' c h s i c' h' s' i' value before n e = let b = same_part_is p p' in grind (arith, nat_tests)
+same_part_is Id Data e = cc
+same_part_is Data Id e = cc
 
 pub stays_sound : HeldStaysProtected
 unfolding with_cylinder with_line with_mark with_byte
-stays_sound (step direction) d a =
-    record {
-      bounds = a.bounds;
-      standing = next_stands direction d.shape.cylinders d.cylinder a.standing;
-      protected = a.protected;
-      no_mark = a.no_mark;
-      no_byte = a.no_byte;
-    }
-stays_sound (line_to line value) d a =
-    record {
-      bounds = a.bounds;
-      standing = a.standing;
-      protected = guarded line value d.held (d.lines Protect) a.protected;
-      no_mark = a.no_mark;
-      no_byte = a.no_byte;
-    }
+stays_sound (step direction) d a = record { bounds = a.bounds; standing = next_stands direction d.shape.cylinders d.cylinder a.standing; protected = a.protected; no_mark = a.no_mark; no_byte = a.no_byte }
+stays_sound (line_to line value) d a = record { bounds = a.bounds; standing = a.standing; protected = guarded line value d.held (d.lines Protect) a.protected; no_mark = a.no_mark; no_byte = a.no_byte }
 stays_sound (mark_to p h s value) d a =
     record {
       bounds = a.bounds;
       standing = a.standing;
       protected = a.protected;
-      no_mark = λ p' c' h' s' n. no_mark_there d.shape p p' d.cylinder h s c' h' s' value (d.marks p' c' h' s') n (a.no_mark p' c' h' s' n);
+      no_mark = λ p' c' h' s' n. let b = a.no_mark p' c' h' s' n in grind (arith, nat_tests);
       no_byte = a.no_byte;
     }
 stays_sound (byte_to p h s i value) d a =
@@ -133,16 +105,12 @@ stays_sound (byte_to p h s i value) d a =
       standing = a.standing;
       protected = a.protected;
       no_mark = a.no_mark;
-      no_byte = λ p' c' h' s' i' n. no_byte_there d.shape p p' d.cylinder h s i c' h' s' i' value (d.bytes p' c' h' s' i') n (a.no_byte p' c' h' s' i' n);
+      no_byte = λ p' c' h' s' i' n. let b = a.no_byte p' c' h' s' i' n in let same = same_part_is p p' in grind (arith, nat_tests);
     }
 
 pub strings_sound : StringsStaySound
 strings_sound ds u change a =
-    let few : length ds ≤ 8 = a.few in
-    record {
-      few = omega (arith, changed_length ds u (made change));
-      each = still SoundDrive (made change) (stays_sound change) ds a.each u;
-    }
+    record { few = rw (changed_length ds u (made change)) a.few; each = still SoundDrive (made change) (stays_sound change) ds a.each u }
 
 -- ---- what shows after a change
 
@@ -151,24 +119,24 @@ same_part_self Id = refl
 same_part_self Data = refl
 
 other_mark : (p p' : Part) (c h s h' s' : ℕ) → ((p' ≡ p) × (h' ≡ h) × (s' ≡ s) → ⊥) → (same_part p p' && same_place c h s c h' s') ≡ false
-other_mark Id Data c h s h' s' n = refl
-other_mark Data Id c h s h' s' n = refl
-other_mark Id Id c h s h' s' n = let m : h' ≡ h → s' ≡ s → ⊥ = λ a b. n (refl, a, b) in grind (arith, nat_tests)
-other_mark Data Data c h s h' s' n = let m : h' ≡ h → s' ≡ s → ⊥ = λ a b. n (refl, a, b) in grind (arith, nat_tests)
+other_mark p p' c h s h' s' n =
+    let same = same_part_is p p' in
+    let m : p ≡ p' → h' ≡ h → s' ≡ s → ⊥ = λ a b e. n (sym a, b, e) in
+    grind (arith, nat_tests)
 
 other_byte : (p p' : Part) (c h s i h' s' i' : ℕ) → ((p' ≡ p) × (h' ≡ h) × (s' ≡ s) × (i' ≡ i) → ⊥) → (same_part p p' && (same_place c h s c h' s' && eqb i i')) ≡ false
-other_byte Id Data c h s i h' s' i' n = refl
-other_byte Data Id c h s i h' s' i' n = refl
-other_byte Id Id c h s i h' s' i' n = let m : h' ≡ h → s' ≡ s → i' ≡ i → ⊥ = λ a b e. n (refl, a, b, e) in grind (arith, nat_tests)
-other_byte Data Data c h s i h' s' i' n = let m : h' ≡ h → s' ≡ s → i' ≡ i → ⊥ = λ a b e. n (refl, a, b, e) in grind (arith, nat_tests)
+other_byte p p' c h s i h' s' i' n =
+    let same = same_part_is p p' in
+    let m : p ≡ p' → h' ≡ h → s' ≡ s → i' ≡ i → ⊥ = λ a b e f. n (sym a, b, e, f) in
+    grind (arith, nat_tests)
 
 mark_shows : (p : Part) (h s : ℕ) (value : Bool) (d : Drive) → is_place d.shape d.cylinder h s ≡ true → mark_here (with_mark p h s value d) p h s ≡ value
 unfolding with_mark
-mark_shows p h s value d e = cond-true _ _ _ (let x = same_part_self p in let y : (is_place d.shape d.cylinder h s && (same_part p p && same_place d.cylinder h s d.cylinder h s)) ≡ true = grind (arith, nat_tests) in y)
+mark_shows p h s value d e = let x = same_part_self p in grind (arith, nat_tests)
 
 byte_shows : (p : Part) (h s i value : ℕ) (d : Drive) → is_byte d.shape p d.cylinder h s i ≡ true → byte_here (with_byte p h s i value d) p h s i ≡ value
 unfolding with_byte
-byte_shows p h s i value d e = cond-true _ _ _ (let x = same_part_self p in let y : (is_byte d.shape p d.cylinder h s i && (same_part p p && (same_place d.cylinder h s d.cylinder h s && eqb i i))) ≡ true = grind (arith, nat_tests) in y)
+byte_shows p h s i value d e = let x = same_part_self p in grind (arith, nat_tests)
 
 pub marks_back : MarksReadBack
 unfolding with_mark
