@@ -156,7 +156,7 @@ mark_changes st st' row row' p h s value eu er =
     let fit = row_holds st.layout (length row) c h s t in
     same_unit st st' (set row (first + slot_at g c h s) (with_bit p value (get_or row (first + slot_at g c h s) 0))) row'
     (eu ∙ sym (written st row _ _ ∙ mark_set g (lines_of st) c first row h s t fit p value))
-    (er ∙ sym (rest_written st row _ _ ∙ ap (memory (length row) first) (mark_rest g (lines_of st) c first row h s t fit p value)))
+    (rw (rest_written, mark_rest g (lines_of st) c first row h s t fit p value) er)
     ∙ sym (cond-true _ _ _ t))
     (λ (n : is_place g c h s ≡ false).
     same_unit st st' row row' (eu ∙ no_mark_changes p h s value (unit_of st row) n) er ∙ sym (cond-false _ _ _ n))

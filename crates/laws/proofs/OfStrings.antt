@@ -1,14 +1,13 @@
 -- The theorems on changes.
-use Rattle.std.proofs.Common.{◌≡◌, ℕ, zero, suc, ◌-◌, ◌<◌, ◌≤◌, Bool, true, false, cond, not, ◌&&◌, eqb, List, [], ◌∷◌, length, get_or, refl, sym, ap, ◌∙◌, arith, length-set, get_or-set_other, get_or-set_same}
+use Rattle.std.proofs.Common.{◌≡◌, ℕ, zero, suc, ◌-◌, ◌<◌, ◌≤◌, Bool, true, false, cond, not, ◌&&◌, eqb, List, [], ◌∷◌, length, get_or, refl, sym, arith, length-set, get_or-set_other, get_or-set_same}
 use Rattle.std.proofs.lemmas.List.{get_or_past}
-use Rattle.std.proofs.lemmas.Bool.{cond-false, and_right, and_parts}
+use Rattle.std.proofs.lemmas.Bool.{and_parts}
 use Rattle.std.proofs.lemmas.Bool.Decides.{nat_tests}
 use Rattle.drives.specs.declared.parts.Part.{Part}
 use Rattle.drives.specs.declared.parts.Part.TheVariants.{Id, Data}
 use Rattle.drives.specs.declared.parts.Line.{Line}
-use Rattle.drives.specs.declared.parts.Line.TheVariants.{Ready, Protect, Fault}
+use Rattle.drives.specs.declared.parts.Line.TheVariants.{Protect}
 use Rattle.drives.specs.declared.parts.Direction.{Direction}
-use Rattle.drives.specs.declared.parts.Direction.TheVariants.{Inward, Outward}
 use Rattle.drives.specs.Drives.{Drive, drive, absent, is_place, is_byte, mark_here, byte_here}
 use Rattle.drives.specs.Changes.{changed, next_cylinder, with_cylinder, with_line, with_mark, with_byte, same_line, same_part, same_place}
 use Rattle.drives.specs.Sound.{SoundDrive}
@@ -40,7 +39,7 @@ still P f e (d ∷ ds) a (suc u) (suc v) = still P f e ds (λ w. a (suc w)) u v
 
 unit_changed : (ds : List Drive) (u : ℕ) (f : Drive → Drive) → u < length ds → drive (changed ds u f) u ≡ f (drive ds u)
 unfolding changed drive
-unit_changed ds u f l = get_or-set_same ds u (f (get_or ds u absent)) absent l
+unit_changed ds u f l = get_or-set_same ds u _ absent l
 
 -- a unit that has a place exists
 exists : (ds : List Drive) (u c h s : ℕ) → is_place (drive ds u).shape c h s ≡ true → u < length ds
@@ -72,14 +71,10 @@ others_stay ds u f v n = get_or-set_other ds u v _ absent n
 -- ---- sound units
 
 next_stands : (direction : Direction) (cylinders n : ℕ) → n ≤ cylinders - 1 → next_cylinder direction cylinders n ≤ cylinders - 1
-next_stands Inward cylinders n l = grind (arith, nat_tests)
-next_stands Outward cylinders n l = omega arith
+next_stands direction cylinders n l = grind (arith, nat_tests)
 
 guarded : (line : Line) (value held before : Bool) → (held && not before) ≡ false → (held && not (cond (same_line line Protect && not (same_line line Protect && held)) value before)) ≡ false
-guarded Ready value held before e = e
-guarded Fault value held before e = e
-guarded Protect value true before e = e
-guarded Protect value false before e = refl
+guarded line value held before e = grind (arith, nat_tests)
 
 same_part_is : (p p' : Part) → same_part p p' ≡ true → p ≡ p'
 same_part_is Id Id e = refl
@@ -141,18 +136,15 @@ byte_shows p h s i value d e = let x = same_part_self p in grind (arith, nat_tes
 pub marks_back : MarksReadBack
 unfolding with_mark
 marks_back ds u p h s value = (
-  λ e. ap (λ d. mark_here d p h s) (unit_changed ds u (with_mark p h s value) (exists ds u (drive ds u).cylinder h s e)) ∙ mark_shows p h s value (drive ds u) e,
-  λ p' h' s' n. kept (λ d. mark_here d p' h' s') (with_mark p h s value) (λ d. cond-false _ _ _ (and_right _ _ (other_mark p p' d.cylinder h s h' s' n))) ds u u,
+  λ e. rw (unit_changed ds u (with_mark p h s value) (exists ds u (drive ds u).cylinder h s e)) (mark_shows p h s value (drive ds u) e),
+  λ p' h' s' n. kept (λ d. mark_here d p' h' s') (with_mark p h s value) (λ d. let b = other_mark p p' d.cylinder h s h' s' n in grind (arith, nat_tests)) ds u u,
   λ p' h' s' i'. kept (λ d. byte_here d p' h' s' i') (with_mark p h s value) (λ d. refl) ds u u,
 )
 
 pub bytes_back : BytesReadBack
 unfolding with_byte
 bytes_back ds u p h s i value = (
-  λ e. ap (λ d. byte_here d p h s i) (unit_changed ds u (with_byte p h s i value) (exists ds u (drive ds u).cylinder h s (placed e))) ∙ byte_shows p h s i value (drive ds u) e,
-  λ p' h' s' i' n. kept (λ d. byte_here d p' h' s' i') (with_byte p h s i value) (λ d. cond-false _ _ _ (and_right _ _ (other_byte p p' d.cylinder h s i h' s' i' n))) ds u u,
+  λ e. rw (unit_changed ds u (with_byte p h s i value) (exists ds u (drive ds u).cylinder h s (and_parts _ _ e).0)) (byte_shows p h s i value (drive ds u) e),
+  λ p' h' s' i' n. kept (λ d. byte_here d p' h' s' i') (with_byte p h s i value) (λ d. let b = other_byte p p' d.cylinder h s i h' s' i' n in grind (arith, nat_tests)) ds u u,
   λ p' h' s'. kept (λ d. mark_here d p' h' s') (with_byte p h s i value) (λ d. refl) ds u u,
 )
-  where
-    placed : is_byte (drive ds u).shape p (drive ds u).cylinder h s i ≡ true → is_place (drive ds u).shape (drive ds u).cylinder h s ≡ true
-    placed e = (and_parts _ _ e).0
