@@ -67,11 +67,8 @@ accepted_shape image l e =
       rw e (new_unit l true image (said l) (cond-true _ _ _ fit)),
     )
 
-no_places : (n : ℕ) → shape_in no_layout n ≡ no_shape
-no_places n = grind (arith, nat_tests)
-
 pub refused_none : RefusedImagesHaveNoPlaces
-refused_none image f e = rw e (new_unit no_layout false image no_shape (no_places (length image)))
+refused_none image f e = rw e (new_unit no_layout false image no_shape (grind (arith, nat_tests)))
 
 -- ---- what the verdict reads
 

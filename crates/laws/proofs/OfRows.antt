@@ -20,12 +20,6 @@ use Rattle.units.proofs.Slots.{slot_inside}
 
 -- ---- where things lie
 
-is_there : (g : Shape) (c h s : ℕ) → c < g.cylinders → h < g.heads → s < g.slots → is_place g c h s ≡ true
-is_there g c h s lc lh ls = grind (arith, nat_tests)
-
-is_there_byte : (g : Shape) (p : Part) (c h s i : ℕ) → c < g.cylinders → h < g.heads → s < g.slots → i < part_size g p → is_byte g p c h s i ≡ true
-is_there_byte g p c h s i lc lh ls li = grind (arith, nat_tests)
-
 pub where_they_lie : WhereThingsLie
 unfolding unit_of marks_in bytes_in slot_at
 where_they_lie st row p c h s e lc lh ls =
@@ -33,8 +27,8 @@ where_they_lie st row p c h s e lc lh ls =
     let whole : shape_in l (length row) ≡ said l = cond-true _ _ _ e in
     let lies : l.first + area (said l) ≤ length row = grind (arith, nat_tests) in (
       omega (arith, lies, slot_inside (said l) c h s lc lh ls),
-      rw whole (cond-true _ _ _ (is_there (said l) c h s lc lh ls)),
-      λ i li. rw whole (cond-true _ _ _ (is_there_byte (said l) p c h s i lc lh ls li) ∙ ap (λ k. get_or row k 0) (omega arith)),
+      rw whole (grind (arith, nat_tests)),
+      λ i li. rw whole (grind (arith, nat_tests)),
     )
 
 -- ---- every byte is named
@@ -77,14 +71,12 @@ module _ (g : Shape) (first : ℕ) (xs ys : List ℕ) (em : (p : Part) (c h s : 
     mark_there : (p : Part) (k : ℕ) → first + slot_at g c h s ≡ k → mark_bit p (get_or xs k 0) ≡ mark_bit p (get_or ys k 0)
     unfolding marks_in
     mark_there p k e =
-        let t = is_there g c h s lc lh ls in
         let m = em p c h s in
         grind (arith, nat_tests)
 
     byte_there : (p : Part) (i k : ℕ) → i < part_size g p → first + slot_at g c h s + (part_start p + i) ≡ k → get_or xs k 0 ≡ get_or ys k 0
     unfolding bytes_in
     byte_there p i k li e =
-        let t = is_there_byte g p c h s i lc lh ls li in
         let b = eb p c h s i in
         grind (arith, nat_tests)
 

@@ -8,7 +8,7 @@ use Rattle.drives.specs.declared.parts.Part.TheVariants.{Id, Data}
 use Rattle.drives.specs.declared.parts.Line.{Line}
 use Rattle.drives.specs.declared.parts.Line.TheVariants.{Protect}
 use Rattle.drives.specs.declared.parts.Direction.{Direction}
-use Rattle.drives.specs.Drives.{Drive, drive, absent, is_place, is_byte, mark_here, byte_here}
+use Rattle.drives.specs.Drives.{Drive, drive, absent, is_place, mark_here, byte_here}
 use Rattle.drives.specs.Changes.{changed, next_cylinder, with_cylinder, with_line, with_mark, with_byte, same_line, same_part, same_place}
 use Rattle.drives.specs.Sound.{SoundDrive}
 use Rattle.laws.specs.OfStrings.{Change, step, line_to, mark_to, byte_to, made, WhatNeverChanges, OtherUnitsStay, HeldStaysProtected, StringsStaySound, MarksReadBack, BytesReadBack}
@@ -19,23 +19,18 @@ changed_length : (ds : List Drive) (u : ℕ) (f : Drive → Drive) → length (c
 unfolding changed
 changed_length ds u f = length-set ds u (f (get_or ds u absent))
 
+-- what relates every unit to itself, and to itself after the change, relates each unit of the string to what it then is
+related : (R : Drive → Drive → Type 0) → ((d : Drive) → R d d) → (f : Drive → Drive) → ((d : Drive) → R d (f d)) → (ds : List Drive) (u v : ℕ) → R (drive ds v) (drive (changed ds u f) v)
+unfolding changed drive
+related R r f e [] u v = r absent
+related R r f e (d ∷ ds) zero zero = e d
+related R r f e (d ∷ ds) zero (suc v) = r (drive ds v)
+related R r f e (d ∷ ds) (suc u) zero = r d
+related R r f e (d ∷ ds) (suc u) (suc v) = related R r f e ds u v
+
 -- what a change leaves alone in every unit shows as before
 kept : {X : Type 0} (q : Drive → X) (f : Drive → Drive) → ((d : Drive) → q (f d) ≡ q d) → (ds : List Drive) (u v : ℕ) → q (drive (changed ds u f) v) ≡ q (drive ds v)
-unfolding changed drive
-kept q f e [] u v = refl
-kept q f e (d ∷ ds) zero zero = e d
-kept q f e (d ∷ ds) zero (suc v) = refl
-kept q f e (d ∷ ds) (suc u) zero = refl
-kept q f e (d ∷ ds) (suc u) (suc v) = kept q f e ds u v
-
--- what holds of every unit, and of a unit after the change, holds of every unit after the change
-still : (P : Drive → Type 0) (f : Drive → Drive) → ((d : Drive) → P d → P (f d)) → (ds : List Drive) → ((v : ℕ) → P (drive ds v)) → (u v : ℕ) → P (drive (changed ds u f) v)
-unfolding changed drive
-still P f e [] a u v = a v
-still P f e (d ∷ ds) a zero zero = e d (a zero)
-still P f e (d ∷ ds) a zero (suc v) = a (suc v)
-still P f e (d ∷ ds) a (suc u) zero = a zero
-still P f e (d ∷ ds) a (suc u) (suc v) = still P f e ds (λ w. a (suc w)) u v
+kept q f = related (λ d d'. q d' ≡ q d) (λ d. refl) f
 
 unit_changed : (ds : List Drive) (u : ℕ) (f : Drive → Drive) → u < length ds → drive (changed ds u f) u ≡ f (drive ds u)
 unfolding changed drive
@@ -86,26 +81,15 @@ pub stays_sound : HeldStaysProtected
 unfolding with_cylinder with_line with_mark with_byte
 stays_sound (step direction) d a = record { bounds = a.bounds; standing = next_stands direction d.shape.cylinders d.cylinder a.standing; protected = a.protected; no_mark = a.no_mark; no_byte = a.no_byte }
 stays_sound (line_to line value) d a = record { bounds = a.bounds; standing = a.standing; protected = guarded line value d.held (d.lines Protect) a.protected; no_mark = a.no_mark; no_byte = a.no_byte }
-stays_sound (mark_to p h s value) d a =
-    record {
-      bounds = a.bounds;
-      standing = a.standing;
-      protected = a.protected;
-      no_mark = λ p' c' h' s' n. let b = a.no_mark p' c' h' s' n in grind (arith, nat_tests);
-      no_byte = a.no_byte;
-    }
-stays_sound (byte_to p h s i value) d a =
-    record {
-      bounds = a.bounds;
-      standing = a.standing;
-      protected = a.protected;
-      no_mark = a.no_mark;
-      no_byte = λ p' c' h' s' i' n. let b = a.no_byte p' c' h' s' i' n in let same = same_part_is p p' in grind (arith, nat_tests);
-    }
+stays_sound (mark_to p h s value) d a = record { bounds = a.bounds; standing = a.standing; protected = a.protected; no_mark = λ p' c' h' s' n. let b = a.no_mark p' c' h' s' n in grind (arith, nat_tests); no_byte = a.no_byte }
+stays_sound (byte_to p h s i value) d a = record { bounds = a.bounds; standing = a.standing; protected = a.protected; no_mark = a.no_mark; no_byte = λ p' c' h' s' i' n. let b = a.no_byte p' c' h' s' i' n in let same = same_part_is p p' in grind (arith, nat_tests) }
 
 pub strings_sound : StringsStaySound
 strings_sound ds u change a =
-    record { few = rw (changed_length ds u (made change)) a.few; each = still SoundDrive (made change) (stays_sound change) ds a.each u }
+    record {
+      few = rw (changed_length ds u (made change)) a.few;
+      each = λ v. related (λ d d'. SoundDrive d → SoundDrive d') (λ d b. b) (made change) (stays_sound change) ds u v (a.each v);
+    }
 
 -- ---- what shows after a change
 
@@ -125,18 +109,10 @@ other_byte p p' c h s i h' s' i' n =
     let m : p ≡ p' → h' ≡ h → s' ≡ s → i' ≡ i → ⊥ = λ a b e f. n (sym a, b, e, f) in
     grind (arith, nat_tests)
 
-mark_shows : (p : Part) (h s : ℕ) (value : Bool) (d : Drive) → is_place d.shape d.cylinder h s ≡ true → mark_here (with_mark p h s value d) p h s ≡ value
-unfolding with_mark
-mark_shows p h s value d e = let x = same_part_self p in grind (arith, nat_tests)
-
-byte_shows : (p : Part) (h s i value : ℕ) (d : Drive) → is_byte d.shape p d.cylinder h s i ≡ true → byte_here (with_byte p h s i value d) p h s i ≡ value
-unfolding with_byte
-byte_shows p h s i value d e = let x = same_part_self p in grind (arith, nat_tests)
-
 pub marks_back : MarksReadBack
 unfolding with_mark
 marks_back ds u p h s value = (
-  λ e. rw (unit_changed ds u (with_mark p h s value) (exists ds u (drive ds u).cylinder h s e)) (mark_shows p h s value (drive ds u) e),
+  λ e. rw (unit_changed ds u (with_mark p h s value) (exists ds u (drive ds u).cylinder h s e)) (let x = same_part_self p in grind (arith, nat_tests)),
   λ p' h' s' n. kept (λ d. mark_here d p' h' s') (with_mark p h s value) (λ d. let b = other_mark p p' d.cylinder h s h' s' n in grind (arith, nat_tests)) ds u u,
   λ p' h' s' i'. kept (λ d. byte_here d p' h' s' i') (with_mark p h s value) (λ d. refl) ds u u,
 )
@@ -144,7 +120,7 @@ marks_back ds u p h s value = (
 pub bytes_back : BytesReadBack
 unfolding with_byte
 bytes_back ds u p h s i value = (
-  λ e. rw (unit_changed ds u (with_byte p h s i value) (exists ds u (drive ds u).cylinder h s (and_parts _ _ e).0)) (byte_shows p h s i value (drive ds u) e),
+  λ e. rw (unit_changed ds u (with_byte p h s i value) (exists ds u (drive ds u).cylinder h s (and_parts _ _ e).0)) (let x = same_part_self p in grind (arith, nat_tests)),
   λ p' h' s' i' n. kept (λ d. byte_here d p' h' s' i') (with_byte p h s i value) (λ d. let b = other_byte p p' d.cylinder h s i h' s' i' n in grind (arith, nat_tests)) ds u u,
   λ p' h' s'. kept (λ d. mark_here d p' h' s') (with_byte p h s i value) (λ d. refl) ds u u,
 )
