@@ -1,7 +1,7 @@
 -- The theorems on images.
 use Rattle.std.proofs.Common.{◌≡◌, ℕ, ◌+◌, ◌-◌, ◌*◌, ◌/◌, ◌%◌, ◌^◌, ◌<◌, ◌≤◌, Bool, true, false, cond, ◌&&◌, eqb, ltb, leb, List, ◌++◌, length, get_or, replicate, Ok, Err, Result, sym, refl, ap, ◌∙◌, arith}
 use Rattle.std.proofs.lemmas.Nat.{mul-le}
-use Rattle.std.proofs.lemmas.Bool.{cond-true, cond-false, le-ltb}
+use Rattle.std.proofs.lemmas.Bool.{cond-true}
 use Rattle.std.proofs.lemmas.Bool.Decides.{nat_tests}
 use Rattle.std.proofs.lemmas.Grind.{common_steps}
 use Rattle.drives.specs.Bounds.{within, bounded}
@@ -108,14 +108,12 @@ ended n t e =
 distance : (n : ℕ) → n < 2 ^ 32 → ((n / 0x1000000 % 256 * 256 + n / 0x10000 % 256) * 256 + n / 0x100 % 256) * 256 + n % 256 ≡ n
 distance n l = omega arith
 
-placed_blank : (n : ℕ) (g : Shape) → n ≡ area g → placed (n + 16) 0 n g ≡ Ok (record { first = 0; cylinders = g.cylinders; heads = g.heads; slots = g.slots; length = g.length })
-placed_blank n g e = grind (arith, nat_tests)
-
-read_blank : (n : ℕ) (g : Shape) → n ≡ area g → in_bounds g.cylinders g.heads g.slots g.length ≡ Ok g → n < 2 ^ 32 → read (n + 16) (λ k. get_or (trailer g) (16 - k) 0) ≡ placed (n + 16) 0 n g
+read_blank : (n : ℕ) (g : Shape) → n ≡ area g → in_bounds g.cylinders g.heads g.slots g.length ≡ Ok g → n < 2 ^ 32 → read (n + 16) (λ k. get_or (trailer g) (16 - k) 0) ≡ Ok (record { first = 0; cylinders = g.cylinders; heads = g.heads; slots = g.slots; length = g.length })
 unfolding read
 read_blank n g e b m =
-    let fields : judged (n + 16) (g.cylinders / 256 * 256 + g.cylinders % 256) g.heads g.slots (g.length / 256 * 256 + g.length % 256) 0 (((area g / 0x1000000 % 256 * 256 + area g / 0x10000 % 256) * 256 + area g / 0x100 % 256) * 256 + area g % 256) ≡ judged (n + 16) g.cylinders g.heads g.slots g.length 0 n = grind (arith, distance) in
-    cond-false _ _ _ (le-ltb (n + 16) 16 (omega arith)) ∙ (fields ∙ ap (λ r. then_placed r (n + 16) 0 n) b)
+    let placed : then_placed (Ok g) (n + 16) 0 n ≡ Ok (record { first = 0; cylinders = g.cylinders; heads = g.heads; slots = g.slots; length = g.length }) = grind (arith, nat_tests) in
+    let long : ltb (n + 16) 16 ≡ false = grind (arith, nat_tests) in
+    grind (arith, distance)
 
 small : (c h s l : ℕ) → (within 1 2048 c && (within 1 8 h && (within 1 32 s && within 128 4095 l))) ≡ true → c * h * s * (l + 11) < 2 ^ 32
 small c h s l e =
@@ -128,4 +126,4 @@ blank_accepted c h s l g e =
     let a = asked c h s l g e in
     let k : Shape = record { cylinders = c; heads = h; slots = s; length = l } in
     ap (λ (x : Shape). verdict (blank x)) (sym a.1)
-    ∙ (ended (area k) (trailer k) refl ∙ (read_blank (area k) k refl (e ∙ ap Ok (sym a.1)) (small c h s l a.0) ∙ placed_blank (area k) k refl))
+    ∙ (ended (area k) (trailer k) refl ∙ (read_blank (area k) k refl (e ∙ ap Ok (sym a.1)) (small c h s l a.0)))

@@ -63,10 +63,6 @@ same_byte : (a b : ℕ) → mark_bit Id a ≡ mark_bit Id b → mark_bit Data a 
 same_byte a b e f r = grind (arith, nat_tests)
 
 module _ (g : Shape) (first : ℕ) (xs ys : List ℕ) (em : (p : Part) (c h s : ℕ) → marks_in g first xs p c h s ≡ marks_in g first ys p c h s) (eb : (p : Part) (c h s i : ℕ) → bytes_in g first xs p c h s i ≡ bytes_in g first ys p c h s i) (er : (k : ℕ) → besides g first xs k ≡ besides g first ys k) where
-  outside : (k : ℕ) → (leb first k && ltb k (first + area g)) ≡ false → get_or xs k 0 ≡ get_or ys k 0
-  unfolding besides
-  outside k n = let e = er k in grind (arith, nat_tests)
-
   module _ (c h s : ℕ) (lc : c < g.cylinders) (lh : h < g.heads) (ls : s < g.slots) where
     mark_there : (p : Part) (k : ℕ) → first + slot_at g c h s ≡ k → mark_bit p (get_or xs k 0) ≡ mark_bit p (get_or ys k 0)
     unfolding marks_in
@@ -89,6 +85,7 @@ module _ (g : Shape) (first : ℕ) (xs ys : List ℕ) (em : (p : Part) (c h s : 
         grind (arith, marks, id, field)
 
   named : (k : ℕ) → get_or xs k 0 ≡ get_or ys k 0
+  unfolding besides
   named k =
       let o : ℕ = k - first in
       let there : (leb first k && ltb k (first + area g)) ≡ true → get_or xs k 0 ≡ get_or ys k 0 = λ i.
@@ -96,7 +93,8 @@ module _ (g : Shape) (first : ℕ) (xs ys : List ℕ) (em : (p : Part) (c h s : 
       let inside : o < area g = grind (arith, nat_tests) in
       let at = exists g o inside in
       in_slot (track g o / g.heads) (track g o % g.heads) (q g o % g.slots) at.0 at.1 at.2 k (o % (g.length + 11)) i refl (mod_below o (g.length + 11) (omega arith)) (omega (arith, placed_at g o)) in
-      grind (arith, nat_tests, there, outside k)
+      let rest = er k in
+      grind (arith, nat_tests, there)
 
 pub every_byte : EveryByteIsNamed
 unfolding unit_of

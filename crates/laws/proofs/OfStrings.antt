@@ -1,5 +1,5 @@
 -- The theorems on changes.
-use Rattle.std.proofs.Common.{◌≡◌, ℕ, zero, suc, ◌-◌, ◌<◌, ◌≤◌, Bool, true, false, cond, not, ◌&&◌, eqb, List, [], ◌∷◌, length, get_or, refl, sym, arith, length-set, get_or-set_other, get_or-set_same}
+use Rattle.std.proofs.Common.{◌≡◌, ℕ, zero, suc, ◌-◌, ◌<◌, ◌≤◌, Bool, true, false, cond, not, ◌&&◌, List, [], ◌∷◌, length, get_or, refl, sym, arith, length-set, get_or-set_other, get_or-set_same}
 use Rattle.std.proofs.lemmas.List.{get_or_past}
 use Rattle.std.proofs.lemmas.Bool.{and_parts}
 use Rattle.std.proofs.lemmas.Bool.Decides.{nat_tests}
@@ -9,7 +9,7 @@ use Rattle.drives.specs.declared.parts.Line.{Line}
 use Rattle.drives.specs.declared.parts.Line.TheVariants.{Protect}
 use Rattle.drives.specs.declared.parts.Direction.{Direction}
 use Rattle.drives.specs.Drives.{Drive, drive, absent, is_place, mark_here, byte_here}
-use Rattle.drives.specs.Changes.{changed, next_cylinder, with_cylinder, with_line, with_mark, with_byte, same_line, same_part, same_place}
+use Rattle.drives.specs.Changes.{changed, next_cylinder, with_cylinder, with_line, with_mark, with_byte, same_line, same_part}
 use Rattle.drives.specs.Sound.{SoundDrive}
 use Rattle.laws.specs.OfStrings.{Change, step, line_to, mark_to, byte_to, made, WhatNeverChanges, OtherUnitsStay, HeldStaysProtected, StringsStaySound, MarksReadBack, BytesReadBack}
 
@@ -97,23 +97,14 @@ same_part_self : (p : Part) → same_part p p ≡ true
 same_part_self Id = refl
 same_part_self Data = refl
 
-other_mark : (p p' : Part) (c h s h' s' : ℕ) → ((p' ≡ p) × (h' ≡ h) × (s' ≡ s) → ⊥) → (same_part p p' && same_place c h s c h' s') ≡ false
-other_mark p p' c h s h' s' n =
-    let same = same_part_is p p' in
-    let m : p ≡ p' → h' ≡ h → s' ≡ s → ⊥ = λ a b e. n (sym a, b, e) in
-    grind (arith, nat_tests)
-
-other_byte : (p p' : Part) (c h s i h' s' i' : ℕ) → ((p' ≡ p) × (h' ≡ h) × (s' ≡ s) × (i' ≡ i) → ⊥) → (same_part p p' && (same_place c h s c h' s' && eqb i i')) ≡ false
-other_byte p p' c h s i h' s' i' n =
-    let same = same_part_is p p' in
-    let m : p ≡ p' → h' ≡ h → s' ≡ s → i' ≡ i → ⊥ = λ a b e f. n (sym a, b, e, f) in
-    grind (arith, nat_tests)
-
 pub marks_back : MarksReadBack
 unfolding with_mark
 marks_back ds u p h s value = (
   λ e. rw (unit_changed ds u (with_mark p h s value) (exists ds u (drive ds u).cylinder h s e)) (let x = same_part_self p in grind (arith, nat_tests)),
-  λ p' h' s' n. kept (λ d. mark_here d p' h' s') (with_mark p h s value) (λ d. let b = other_mark p p' d.cylinder h s h' s' n in grind (arith, nat_tests)) ds u u,
+  λ p' h' s' n.
+      let same = same_part_is p p' in
+      let other : p ≡ p' → h' ≡ h → s' ≡ s → ⊥ = λ a b e. n (sym a, b, e) in
+      kept (λ d. mark_here d p' h' s') (with_mark p h s value) (λ d. grind (arith, nat_tests)) ds u u,
   λ p' h' s' i'. kept (λ d. byte_here d p' h' s' i') (with_mark p h s value) (λ d. refl) ds u u,
 )
 
@@ -121,6 +112,9 @@ pub bytes_back : BytesReadBack
 unfolding with_byte
 bytes_back ds u p h s i value = (
   λ e. rw (unit_changed ds u (with_byte p h s i value) (exists ds u (drive ds u).cylinder h s (and_parts _ _ e).0)) (let x = same_part_self p in grind (arith, nat_tests)),
-  λ p' h' s' i' n. kept (λ d. byte_here d p' h' s' i') (with_byte p h s i value) (λ d. let b = other_byte p p' d.cylinder h s i h' s' i' n in grind (arith, nat_tests)) ds u u,
+  λ p' h' s' i' n.
+      let same = same_part_is p p' in
+      let other : p ≡ p' → h' ≡ h → s' ≡ s → i' ≡ i → ⊥ = λ a b e f. n (sym a, b, e, f) in
+      kept (λ d. byte_here d p' h' s' i') (with_byte p h s i value) (λ d. grind (arith, nat_tests)) ds u u,
   λ p' h' s'. kept (λ d. mark_here d p' h' s') (with_byte p h s i value) (λ d. refl) ds u u,
 )
