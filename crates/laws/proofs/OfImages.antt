@@ -1,5 +1,5 @@
 -- The theorems on images.
-use Rattle.std.proofs.Common.{◌≡◌, ℕ, ◌+◌, ◌-◌, ◌*◌, ◌/◌, ◌%◌, ◌^◌, ◌<◌, ◌≤◌, Bool, true, false, cond, ◌&&◌, eqb, ltb, leb, List, ◌++◌, length, get_or, replicate, Ok, Err, Result, sym, refl, ap, ◌∙◌, arith}
+use Rattle.std.proofs.Common.{◌≡◌, ℕ, ◌+◌, ◌-◌, ◌*◌, ◌/◌, ◌%◌, ◌^◌, ◌<◌, ◌≤◌, Bool, true, false, cond, ◌&&◌, eqb, ltb, List, ◌++◌, length, get_or, replicate, Ok, Err, Result, sym, refl, ap, ◌∙◌, arith}
 use Rattle.std.proofs.lemmas.Nat.{mul-le}
 use Rattle.std.proofs.lemmas.Bool.{cond-true}
 use Rattle.std.proofs.lemmas.Bool.Decides.{nat_tests}
@@ -10,9 +10,8 @@ use Rattle.units.specs.declared.layout.Layout.{Layout}
 use Rattle.units.specs.Rows.{area}
 use Rattle.units.specs.Units.{said, fits, shape_in, unit_of}
 use Rattle.images.specs.declared.refusal.TrailerField.{TrailerField}
-use Rattle.images.specs.declared.refusal.TrailerField.TheVariants.{Zeros}
 use Rattle.images.specs.declared.refusal.ImageFault.{ImageFault}
-use Rattle.images.specs.declared.refusal.ImageFault.TheVariants.{TooShort, NotMarked, OutOfBounds, WrongDistance}
+use Rattle.images.specs.declared.refusal.ImageFault.TheVariants.{TooShort, NotMarked}
 use Rattle.images.specs.Trailer.{last, marked, in_bounds, placed, then_placed, judged, verdict}
 use Rattle.images.specs.Fresh.{no_layout, new}
 use Rattle.images.specs.Blank.{blank, trailer}
@@ -30,25 +29,19 @@ worked_distances = record { right = refl; wrong = refl; number = refl }
 tests_passed : (a b : Bool) (j : Result Layout ImageFault) (l : Layout) → cond a (Err TooShort) (cond b j (Err NotMarked)) ≡ Ok l → j ≡ Ok l
 tests_passed a b j l e = grind (arith, nat_tests)
 
-in_place : (a b z : Bool) (k l : Layout) → cond z (cond (a && b) (Ok k) (Err WrongDistance)) (Err (OutOfBounds Zeros)) ≡ Ok l → ((a && b) ≡ true) × (k ≡ l)
-in_place a b z k l e = grind (arith, nat_tests)
-
 -- a shape that is in bounds is the one that was asked for
 asked : (c h s l : ℕ) (g : Shape) → in_bounds c h s l ≡ Ok g → ((within 1 2048 c && (within 1 8 h && (within 1 32 s && within 128 4095 l))) ≡ true) × (record { cylinders = c; heads = h; slots = s; length = l } ≡ g)
 asked c h s l g e = grind (arith, nat_tests)
 
-asked_bounded : (c h s l : ℕ) (g : Shape) → in_bounds c h s l ≡ Ok g → bounded g.cylinders g.heads g.slots g.length ≡ true
-asked_bounded c h s l g e = grind (arith, nat_tests)
-
 placed_fits : (n z d : ℕ) (g : Shape) (l : Layout) → bounded g.cylinders g.heads g.slots g.length ≡ true → placed n z d g ≡ Ok l → fits l n ≡ true
 placed_fits n z d g l b e =
     let k : Layout = record { first = n - 16 - d; cylinders = g.cylinders; heads = g.heads; slots = g.slots; length = g.length } in
-    let a = in_place (eqb d (area g)) (leb d (n - 16)) (eqb z 0) k l e in
+    let same : k ≡ l = grind (arith, nat_tests) in
     let fit : fits k n ≡ true = grind (arith, nat_tests) in
-    rw (← a.1) fit
+    rw (← same) fit
 
 judged_fits : (n c h s len z d : ℕ) (r : Result Shape TrailerField) (l : Layout) → in_bounds c h s len ≡ r → then_placed r n z d ≡ Ok l → fits l n ≡ true
-judged_fits n c h s len z d (Ok g) l b e = placed_fits n z d g l (asked_bounded c h s len g b) e
+judged_fits n c h s len z d (Ok g) l b e = placed_fits n z d g l (grind (arith, nat_tests)) e
 judged_fits n c h s len z d (Err f) l b e = cc
 
 accepted_fits : (image : List ℕ) (l : Layout) → verdict image ≡ Ok l → fits l (length image) ≡ true

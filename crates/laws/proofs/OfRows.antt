@@ -33,10 +33,6 @@ where_they_lie st row p c h s e lc lh ls =
 
 -- ---- every byte is named
 
--- a product above some number has no factor 0
-positive : (a b n : ℕ) → n < a * b → 0 < b
-positive a b n l = grind (arith, nat_tests)
-
 -- the place of byte o of the area: its slot, counted over all tracks, and that slot's number, head and cylinder
 module _ (g : Shape) (o : ℕ) where
   abbrev q : ℕ
@@ -48,9 +44,9 @@ module _ (g : Shape) (o : ℕ) where
   exists : o < area g → (track / g.heads < g.cylinders) × (track % g.heads < g.heads) × (q % g.slots < g.slots)
   exists inside =
       let a : q < g.cylinders * g.heads * g.slots = div_below o (g.length + 11) (g.cylinders * g.heads * g.slots) (omega arith) inside in
-      let slots : 0 < g.slots = positive (g.cylinders * g.heads) g.slots q a in
+      let slots : 0 < g.slots = grind (arith, nat_tests) in
       let b : track < g.cylinders * g.heads = div_below q g.slots (g.cylinders * g.heads) slots a in
-      let heads : 0 < g.heads = positive g.cylinders g.heads track b in
+      let heads : 0 < g.heads = grind (arith, nat_tests) in
       (div_below track g.heads g.cylinders heads b, mod_below track g.heads heads, mod_below q g.slots slots)
 
   -- and there it lies

@@ -1,5 +1,5 @@
 -- The theorems on changes.
-use Rattle.std.proofs.Common.{◌≡◌, ℕ, zero, suc, ◌-◌, ◌<◌, ◌≤◌, Bool, true, false, cond, not, ◌&&◌, List, [], ◌∷◌, length, get_or, refl, sym, arith, length-set, get_or-set_other, get_or-set_same}
+use Rattle.std.proofs.Common.{◌≡◌, ℕ, zero, suc, ◌-◌, ◌<◌, ◌≤◌, Bool, true, false, cond, not, ◌&&◌, List, [], ◌∷◌, length, refl, sym, arith, length-set, get_or-set_other, get_or-set_same}
 use Rattle.std.proofs.lemmas.List.{get_or_past}
 use Rattle.std.proofs.lemmas.Bool.{and_parts}
 use Rattle.std.proofs.lemmas.Bool.Decides.{nat_tests}
@@ -14,10 +14,6 @@ use Rattle.drives.specs.Sound.{SoundDrive}
 use Rattle.laws.specs.OfStrings.{Change, step, line_to, mark_to, byte_to, made, WhatNeverChanges, OtherUnitsStay, HeldStaysProtected, StringsStaySound, MarksReadBack, BytesReadBack}
 
 -- ---- one unit of a string
-
-changed_length : (ds : List Drive) (u : ℕ) (f : Drive → Drive) → length (changed ds u f) ≡ length ds
-unfolding changed
-changed_length ds u f = length-set ds u (f (get_or ds u absent))
 
 -- what relates every unit to itself, and to itself after the change, relates each unit of the string to what it then is
 related : (R : Drive → Drive → Type 0) → ((d : Drive) → R d d) → (f : Drive → Drive) → ((d : Drive) → R d (f d)) → (ds : List Drive) (u v : ℕ) → R (drive ds v) (drive (changed ds u f) v)
@@ -53,8 +49,9 @@ same (mark_to p h s value) d = (refl, refl)
 same (byte_to p h s i value) d = (refl, refl)
 
 pub never_changes : WhatNeverChanges
+unfolding changed
 never_changes ds u change v = (
-  changed_length ds u (made change),
+  length-set ds u _,
   kept (λ d. d.shape) (made change) (λ d. (same change d).0) ds u v,
   kept (λ d. d.held) (made change) (λ d. (same change d).1) ds u v,
 )
@@ -85,9 +82,10 @@ stays_sound (mark_to p h s value) d a = record { bounds = a.bounds; standing = a
 stays_sound (byte_to p h s i value) d a = record { bounds = a.bounds; standing = a.standing; protected = a.protected; no_mark = a.no_mark; no_byte = λ p' c' h' s' i' n. let b = a.no_byte p' c' h' s' i' n in let same = same_part_is p p' in grind (arith, nat_tests) }
 
 pub strings_sound : StringsStaySound
+unfolding changed
 strings_sound ds u change a =
     record {
-      few = rw (changed_length ds u (made change)) a.few;
+      few = rw (length-set ds u _) a.few;
       each = λ v. related (λ d d'. SoundDrive d → SoundDrive d') (λ d b. b) (made change) (stays_sound change) ds u v (a.each v);
     }
 
