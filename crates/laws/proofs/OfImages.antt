@@ -12,9 +12,9 @@ use Rattle.units.specs.Units.{said, fits, shape_in, unit_of}
 use Rattle.images.specs.declared.refusal.TrailerField.{TrailerField}
 use Rattle.images.specs.declared.refusal.ImageFault.{ImageFault}
 use Rattle.images.specs.declared.refusal.ImageFault.TheVariants.{TooShort, NotMarked}
-use Rattle.images.specs.Trailer.{last, marked, in_bounds, placed, then_placed, judged, verdict}
+use Rattle.images.specs.Trailer.{last, marked, in_bounds, then_placed, judged, verdict}
 use Rattle.images.specs.Fresh.{no_layout, new}
-use Rattle.images.specs.Blank.{blank, trailer}
+use Rattle.images.specs.Blank.{trailer}
 use Rattle.laws.specs.OfImages.{NewUnit, AcceptedImagesHaveTheirShape, RefusedImagesHaveNoPlaces, BlankImagesAreAccepted, WorkedDistances, ReadOnlyTheTrailer}
 
 -- ---- worked distances
@@ -33,15 +33,13 @@ tests_passed a b j l e = grind (arith, nat_tests)
 asked : (c h s l : ℕ) (g : Shape) → in_bounds c h s l ≡ Ok g → ((within 1 2048 c && (within 1 8 h && (within 1 32 s && within 128 4095 l))) ≡ true) × (record { cylinders = c; heads = h; slots = s; length = l } ≡ g)
 asked c h s l g e = grind (arith, nat_tests)
 
-placed_fits : (n z d : ℕ) (g : Shape) (l : Layout) → bounded g.cylinders g.heads g.slots g.length ≡ true → placed n z d g ≡ Ok l → fits l n ≡ true
-placed_fits n z d g l b e =
+judged_fits : (n c h s len z d : ℕ) (r : Result Shape TrailerField) (l : Layout) → in_bounds c h s len ≡ r → then_placed r n z d ≡ Ok l → fits l n ≡ true
+judged_fits n c h s len z d (Ok g) l b e =
     let k : Layout = record { first = n - 16 - d; cylinders = g.cylinders; heads = g.heads; slots = g.slots; length = g.length } in
     let same : k ≡ l = grind (arith, nat_tests) in
+    let bounds : bounded g.cylinders g.heads g.slots g.length ≡ true = grind (arith, nat_tests) in
     let fit : fits k n ≡ true = grind (arith, nat_tests) in
     rw (← same) fit
-
-judged_fits : (n c h s len z d : ℕ) (r : Result Shape TrailerField) (l : Layout) → in_bounds c h s len ≡ r → then_placed r n z d ≡ Ok l → fits l n ≡ true
-judged_fits n c h s len z d (Ok g) l b e = placed_fits n z d g l (grind (arith, nat_tests)) e
 judged_fits n c h s len z d (Err f) l b e = cc
 
 accepted_fits : (image : List ℕ) (l : Layout) → verdict image ≡ Ok l → fits l (length image) ≡ true
@@ -118,5 +116,5 @@ pub blank_accepted : BlankImagesAreAccepted
 blank_accepted c h s l g e =
     let a = asked c h s l g e in
     let k : Shape = record { cylinders = c; heads = h; slots = s; length = l } in
-    ap (λ (x : Shape). verdict (blank x)) (sym a.1)
-    ∙ (ended (area k) (trailer k) refl ∙ (read_blank (area k) k refl (e ∙ ap Ok (sym a.1)) (small c h s l a.0)))
+    let b : in_bounds c h s l ≡ Ok k = e ∙ ap Ok (sym a.1) in
+    rw (← a.1, ended (area k) (trailer k) refl) (read_blank (area k) k refl b (small c h s l a.0))

@@ -74,6 +74,9 @@ same_part_is Data Data e = refl
 same_part_is Id Data e = cc
 same_part_is Data Id e = cc
 
+same_part_self : (p : Part) → same_part p p ≡ true
+same_part_self p = grind (arith, nat_tests)
+
 pub stays_sound : HeldStaysProtected
 unfolding with_cylinder with_line with_mark with_byte
 stays_sound (step direction) d a = record { bounds = a.bounds; standing = next_stands direction d.shape.cylinders d.cylinder a.standing; protected = a.protected; no_mark = a.no_mark; no_byte = a.no_byte }
@@ -90,10 +93,6 @@ strings_sound ds u change a =
     }
 
 -- ---- what shows after a change
-
-same_part_self : (p : Part) → same_part p p ≡ true
-same_part_self Id = refl
-same_part_self Data = refl
 
 pub marks_back : MarksReadBack
 unfolding with_mark
