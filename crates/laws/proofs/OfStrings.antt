@@ -1,5 +1,5 @@
 -- The theorems on changes.
-use Rattle.std.proofs.Common.{◌≡◌, ℕ, zero, suc, ◌-◌, ◌<◌, ◌≤◌, Bool, true, false, cond, not, ◌&&◌, List, [], ◌∷◌, length, refl, sym, arith, length-set, get_or-set_other, get_or-set_same}
+use Rattle.std.proofs.Common.{◌≡◌, ℕ, zero, suc, ◌-◌, ◌≤◌, Bool, true, false, cond, not, ◌&&◌, List, [], ◌∷◌, length, refl, sym, arith, length-set, get_or-set_other, get_or-set_same}
 use Rattle.std.proofs.lemmas.List.{get_or_past}
 use Rattle.std.proofs.lemmas.Bool.{and_parts}
 use Rattle.std.proofs.lemmas.Bool.Decides.{nat_tests}
@@ -11,7 +11,7 @@ use Rattle.drives.specs.declared.parts.Direction.{Direction}
 use Rattle.drives.specs.Drives.{Drive, drive, absent, is_place, mark_here, byte_here}
 use Rattle.drives.specs.Changes.{changed, next_cylinder, with_cylinder, with_line, with_mark, with_byte, same_line, same_part}
 use Rattle.drives.specs.Sound.{SoundDrive}
-use Rattle.laws.specs.OfStrings.{Change, step, line_to, mark_to, byte_to, made, WhatNeverChanges, OtherUnitsStay, HeldStaysProtected, StringsStaySound, MarksReadBack, BytesReadBack}
+use Rattle.laws.specs.OfStrings.{step, line_to, mark_to, byte_to, made, WhatNeverChanges, OtherUnitsStay, HeldStaysProtected, StringsStaySound, MarksReadBack, BytesReadBack}
 
 -- ---- one unit of a string
 
@@ -28,32 +28,21 @@ related R r f e (d ∷ ds) (suc u) (suc v) = related R r f e ds u v
 kept : {X : Type 0} (q : Drive → X) (f : Drive → Drive) → ((d : Drive) → q (f d) ≡ q d) → (ds : List Drive) (u v : ℕ) → q (drive (changed ds u f) v) ≡ q (drive ds v)
 kept q f = related (λ d d'. q d' ≡ q d) (λ d. refl) f
 
-unit_changed : (ds : List Drive) (u : ℕ) (f : Drive → Drive) → u < length ds → drive (changed ds u f) u ≡ f (drive ds u)
+-- a unit that has a place exists, and is changed
+is_changed : (ds : List Drive) (u c h s : ℕ) (f : Drive → Drive) → is_place (drive ds u).shape c h s ≡ true → drive (changed ds u f) u ≡ f (drive ds u)
 unfolding changed drive
-unit_changed ds u f l = get_or-set_same ds u _ absent l
-
--- a unit that has a place exists
-exists : (ds : List Drive) (u c h s : ℕ) → is_place (drive ds u).shape c h s ≡ true → u < length ds
-unfolding drive
-exists ds u c h s e =
+is_changed ds u c h s f e =
     let past : length ds ≤ u → ⊥ = λ l. let n = rw (get_or_past ds u absent l) at e in grind (arith, nat_tests) in
-    omega (arith, past)
+    get_or-set_same ds u _ absent (omega (arith, past))
 
 -- ---- what never changes
 
-same : (change : Change) (d : Drive) → ((made change d).shape ≡ d.shape) × ((made change d).held ≡ d.held)
-unfolding with_cylinder with_line with_mark with_byte
-same (step direction) d = (refl, refl)
-same (line_to line value) d = (refl, refl)
-same (mark_to p h s value) d = (refl, refl)
-same (byte_to p h s i value) d = (refl, refl)
-
 pub never_changes : WhatNeverChanges
-unfolding changed
+unfolding changed with_cylinder with_line with_mark with_byte
 never_changes ds u change v = (
   length-set ds u _,
-  kept (λ d. d.shape) (made change) (λ d. (same change d).0) ds u v,
-  kept (λ d. d.held) (made change) (λ d. (same change d).1) ds u v,
+  kept (λ d. d.shape) (made change) (λ d. grind (arith, nat_tests)) ds u v,
+  kept (λ d. d.held) (made change) (λ d. grind (arith, nat_tests)) ds u v,
 )
 
 pub others_stay : OtherUnitsStay
@@ -97,7 +86,7 @@ strings_sound ds u change a =
 pub marks_back : MarksReadBack
 unfolding with_mark
 marks_back ds u p h s value = (
-  λ e. rw (unit_changed ds u (with_mark p h s value) (exists ds u (drive ds u).cylinder h s e)) (let x = same_part_self p in grind (arith, nat_tests)),
+  λ e. rw (is_changed ds u (drive ds u).cylinder h s (with_mark p h s value) e) (let x = same_part_self p in grind (arith, nat_tests)),
   λ p' h' s' n.
       let same = same_part_is p p' in
       let other : p ≡ p' → h' ≡ h → s' ≡ s → ⊥ = λ a b e. n (sym a, b, e) in
@@ -108,7 +97,7 @@ marks_back ds u p h s value = (
 pub bytes_back : BytesReadBack
 unfolding with_byte
 bytes_back ds u p h s i value = (
-  λ e. rw (unit_changed ds u (with_byte p h s i value) (exists ds u (drive ds u).cylinder h s (and_parts _ _ e).0)) (let x = same_part_self p in grind (arith, nat_tests)),
+  λ e. rw (is_changed ds u (drive ds u).cylinder h s (with_byte p h s i value) (and_parts _ _ e).0) (let x = same_part_self p in grind (arith, nat_tests)),
   λ p' h' s' i' n.
       let same = same_part_is p p' in
       let other : p ≡ p' → h' ≡ h → s' ≡ s → i' ≡ i → ⊥ = λ a b e f. n (sym a, b, e, f) in
