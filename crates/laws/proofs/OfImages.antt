@@ -108,8 +108,8 @@ read_blank n g e b m =
 
 small : (c h s l : ℕ) → (within 1 2048 c && (within 1 8 h && (within 1 32 s && within 128 4095 l))) ≡ true → c * h * s * (l + 11) < 2 ^ 32
 small c h s l e =
-    let a : c * h ≤ 2048 * 8 = mul-le c h 2048 8 (grind (arith, nat_tests)) (grind (arith, nat_tests)) in
-    let b : c * h * s ≤ 2048 * 8 * 32 = mul-le (c * h) s (2048 * 8) 32 a (grind (arith, nat_tests)) in
+    let a = mul-le c h 2048 8 (grind (arith, nat_tests)) (grind (arith, nat_tests)) in
+    let b = mul-le (c * h) s (2048 * 8) 32 a (grind (arith, nat_tests)) in
     omega (arith, mul-le (c * h * s) (l + 11) (2048 * 8 * 32) 4106 b (grind (arith, nat_tests)))
 
 pub blank_accepted : BlankImagesAreAccepted

@@ -1,15 +1,11 @@
 -- The theorems on changes.
-use Rattle.std.proofs.Common.{◌≡◌, ℕ, zero, suc, ◌-◌, ◌≤◌, Bool, true, false, cond, not, ◌&&◌, List, [], ◌∷◌, length, refl, sym, arith, length-set, get_or-set_other, get_or-set_same}
+use Rattle.std.proofs.Common.{◌≡◌, ℕ, zero, suc, ◌≤◌, true, List, [], ◌∷◌, length, refl, sym, arith, length-set, get_or-set_other, get_or-set_same}
 use Rattle.std.proofs.lemmas.List.{get_or_past}
 use Rattle.std.proofs.lemmas.Bool.{and_parts}
 use Rattle.std.proofs.lemmas.Bool.Decides.{nat_tests}
 use Rattle.drives.specs.declared.parts.Part.{Part}
-use Rattle.drives.specs.declared.parts.Part.TheVariants.{Id, Data}
-use Rattle.drives.specs.declared.parts.Line.{Line}
-use Rattle.drives.specs.declared.parts.Line.TheVariants.{Protect}
-use Rattle.drives.specs.declared.parts.Direction.{Direction}
 use Rattle.drives.specs.Drives.{Drive, drive, absent, is_place, mark_here, byte_here}
-use Rattle.drives.specs.Changes.{changed, next_cylinder, with_cylinder, with_line, with_mark, with_byte, same_line, same_part}
+use Rattle.drives.specs.Changes.{changed, with_cylinder, with_line, with_mark, with_byte, same_part}
 use Rattle.drives.specs.Sound.{SoundDrive}
 use Rattle.laws.specs.OfStrings.{step, line_to, mark_to, byte_to, made, WhatNeverChanges, OtherUnitsStay, HeldStaysProtected, StringsStaySound, MarksReadBack, BytesReadBack}
 
@@ -51,25 +47,16 @@ others_stay ds u f v n = get_or-set_other ds u v _ absent n
 
 -- ---- sound units
 
-next_stands : (direction : Direction) (cylinders n : ℕ) → n ≤ cylinders - 1 → next_cylinder direction cylinders n ≤ cylinders - 1
-next_stands direction cylinders n l = grind (arith, nat_tests)
-
-guarded : (line : Line) (value held before : Bool) → (held && not before) ≡ false → (held && not (cond (same_line line Protect && not (same_line line Protect && held)) value before)) ≡ false
-guarded line value held before e = grind (arith, nat_tests)
-
 same_part_is : (p p' : Part) → same_part p p' ≡ true → p ≡ p'
-same_part_is Id Id e = refl
-same_part_is Data Data e = refl
-same_part_is Id Data e = cc
-same_part_is Data Id e = cc
+same_part_is p p' e = grind (arith, nat_tests)
 
 same_part_self : (p : Part) → same_part p p ≡ true
 same_part_self p = grind (arith, nat_tests)
 
 pub stays_sound : HeldStaysProtected
 unfolding with_cylinder with_line with_mark with_byte
-stays_sound (step direction) d a = record { bounds = a.bounds; standing = next_stands direction d.shape.cylinders d.cylinder a.standing; protected = a.protected; no_mark = a.no_mark; no_byte = a.no_byte }
-stays_sound (line_to line value) d a = record { bounds = a.bounds; standing = a.standing; protected = guarded line value d.held (d.lines Protect) a.protected; no_mark = a.no_mark; no_byte = a.no_byte }
+stays_sound (step direction) d a = record { bounds = a.bounds; standing = let b = a.standing in grind (arith, nat_tests); protected = a.protected; no_mark = a.no_mark; no_byte = a.no_byte }
+stays_sound (line_to line value) d a = record { bounds = a.bounds; standing = a.standing; protected = let b = a.protected in grind (arith, nat_tests); no_mark = a.no_mark; no_byte = a.no_byte }
 stays_sound (mark_to p h s value) d a = record { bounds = a.bounds; standing = a.standing; protected = a.protected; no_mark = λ p' c' h' s' n. let b = a.no_mark p' c' h' s' n in grind (arith, nat_tests); no_byte = a.no_byte }
 stays_sound (byte_to p h s i value) d a = record { bounds = a.bounds; standing = a.standing; protected = a.protected; no_mark = a.no_mark; no_byte = λ p' c' h' s' i' n. let b = a.no_byte p' c' h' s' i' n in let same = same_part_is p p' in grind (arith, nat_tests) }
 
