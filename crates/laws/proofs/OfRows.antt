@@ -54,10 +54,6 @@ module _ (g : Shape) (o : ℕ) where
   unfolding slot_at
   placed_at = rw (div-add-mod' track g.heads, div-add-mod' q g.slots, div-add-mod' o (g.length + 11))
 
--- a byte is known by its two low bits and the others
-same_byte : (a b : ℕ) → mark_bit Id a ≡ mark_bit Id b → mark_bit Data a ≡ mark_bit Data b → a / 4 ≡ b / 4 → a ≡ b
-same_byte a b e f r = grind (arith, nat_tests)
-
 module _ (g : Shape) (first : ℕ) (xs ys : List ℕ) (em : (p : Part) (c h s : ℕ) → marks_in g first xs p c h s ≡ marks_in g first ys p c h s) (eb : (p : Part) (c h s i : ℕ) → bytes_in g first xs p c h s i ≡ bytes_in g first ys p c h s i) (er : (k : ℕ) → besides g first xs k ≡ besides g first ys k) where
   module _ (c h s : ℕ) (lc : c < g.cylinders) (lh : h < g.heads) (ls : s < g.slots) where
     mark_there : (p : Part) (k : ℕ) → first + slot_at g c h s ≡ k → mark_bit p (get_or xs k 0) ≡ mark_bit p (get_or ys k 0)
@@ -75,7 +71,7 @@ module _ (g : Shape) (first : ℕ) (xs ys : List ℕ) (em : (p : Part) (c h s : 
     in_slot : (k r : ℕ) → (leb first k && ltb k (first + area g)) ≡ true → (k - first) % slot_size g ≡ r → r < g.length + 11 → first + slot_at g c h s + r ≡ k → get_or xs k 0 ≡ get_or ys k 0
     unfolding besides
     in_slot k r i er' lr e =
-        let marks : r ≡ 0 → get_or xs k 0 ≡ get_or ys k 0 = λ z. same_byte _ _ (mark_there Id k (omega arith)) (mark_there Data k (omega arith)) (let b = er k in grind (arith, nat_tests)) in
+        let marks : r ≡ 0 → get_or xs k 0 ≡ get_or ys k 0 = λ z. let m = mark_there Id k (omega arith) in let n = mark_there Data k (omega arith) in let b = er k in grind (arith, nat_tests) in
         let id : 1 ≤ r → r < 7 → get_or xs k 0 ≡ get_or ys k 0 = λ a b. byte_there Id (r - 1) k (omega arith) (omega arith) in
         let field : 7 ≤ r → get_or xs k 0 ≡ get_or ys k 0 = λ a. byte_there Data (r - 7) k (omega arith) (omega arith) in
         grind (arith, marks, id, field)

@@ -50,9 +50,6 @@ others_stay ds u f v n = get_or-set_other ds u v _ absent n
 same_part_is : (p p' : Part) → same_part p p' ≡ true → p ≡ p'
 same_part_is p p' e = grind (arith, nat_tests)
 
-same_part_self : (p : Part) → same_part p p ≡ true
-same_part_self p = grind (arith, nat_tests)
-
 pub stays_sound : HeldStaysProtected
 unfolding with_cylinder with_line with_mark with_byte
 stays_sound (step direction) d a = record { bounds = a.bounds; standing = let b = a.standing in grind (arith, nat_tests); protected = a.protected; no_mark = a.no_mark; no_byte = a.no_byte }
@@ -73,9 +70,8 @@ strings_sound ds u change a =
 pub marks_back : MarksReadBack
 unfolding with_mark
 marks_back ds u p h s value = (
-  λ e. rw (is_changed ds u (drive ds u).cylinder h s (with_mark p h s value) e) (let x = same_part_self p in grind (arith, nat_tests)),
+  λ e. rw (is_changed ds u (drive ds u).cylinder h s (with_mark p h s value) e) (grind (arith, nat_tests)),
   λ p' h' s' n.
-      let same = same_part_is p p' in
       let other : p ≡ p' → h' ≡ h → s' ≡ s → ⊥ = λ a b e. n (sym a, b, e) in
       kept (λ d. mark_here d p' h' s') (with_mark p h s value) (λ d. grind (arith, nat_tests)) ds u u,
   λ p' h' s' i'. kept (λ d. byte_here d p' h' s' i') (with_mark p h s value) (λ d. refl) ds u u,
@@ -84,9 +80,8 @@ marks_back ds u p h s value = (
 pub bytes_back : BytesReadBack
 unfolding with_byte
 bytes_back ds u p h s i value = (
-  λ e. rw (is_changed ds u (drive ds u).cylinder h s (with_byte p h s i value) (and_parts _ _ e).0) (let x = same_part_self p in grind (arith, nat_tests)),
+  λ e. rw (is_changed ds u (drive ds u).cylinder h s (with_byte p h s i value) (and_parts _ _ e).0) (grind (arith, nat_tests)),
   λ p' h' s' i' n.
-      let same = same_part_is p p' in
       let other : p ≡ p' → h' ≡ h → s' ≡ s → i' ≡ i → ⊥ = λ a b e f. n (sym a, b, e, f) in
       kept (λ d. byte_here d p' h' s' i') (with_byte p h s i value) (λ d. grind (arith, nat_tests)) ds u u,
   λ p' h' s'. kept (λ d. mark_here d p' h' s') (with_byte p h s i value) (λ d. refl) ds u u,
