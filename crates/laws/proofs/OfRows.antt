@@ -11,7 +11,7 @@ use Rattle.drives.specs.Sound.{memory}
 use Rattle.units.specs.declared.layout.Layout.{Layout}
 use Rattle.drives.specs.Changes.{with_cylinder, with_line, with_mark, with_byte}
 use Rattle.units.specs.declared.unit.State.{State}
-use Rattle.units.specs.Rows.{slot_size, slot_at, area, part_start, mark_bit, marks_in, bytes_in, besides}
+use Rattle.units.specs.Rows.{slot_size, slot_at, area, marks_in, bytes_in, besides}
 use Rattle.units.specs.Units.{said, shape_in, standing, lines_of, unit_of, rest_of}
 use Rattle.laws.specs.OfStrings.{step, line_to, mark_to, byte_to}
 use Rattle.laws.specs.OfRows.{WhereThingsLie, EveryByteIsNamed, ExactlyThatByteChanges}
@@ -55,26 +55,13 @@ module _ (g : Shape) (o : ℕ) where
   placed_at = rw (div-add-mod' track g.heads, div-add-mod' q g.slots, div-add-mod' o (g.length + 11))
 
 module _ (g : Shape) (first : ℕ) (xs ys : List ℕ) (em : (p : Part) (c h s : ℕ) → marks_in g first xs p c h s ≡ marks_in g first ys p c h s) (eb : (p : Part) (c h s i : ℕ) → bytes_in g first xs p c h s i ≡ bytes_in g first ys p c h s i) (er : (k : ℕ) → besides g first xs k ≡ besides g first ys k) where
-  module _ (c h s : ℕ) (lc : c < g.cylinders) (lh : h < g.heads) (ls : s < g.slots) where
-    mark_there : (p : Part) (k : ℕ) → first + slot_at g c h s ≡ k → mark_bit p (get_or xs k 0) ≡ mark_bit p (get_or ys k 0)
-    unfolding marks_in
-    mark_there p k e =
-        let m = em p c h s in
-        grind (arith, nat_tests)
-
-    byte_there : (p : Part) (i k : ℕ) → i < part_size g p → first + slot_at g c h s + (part_start p + i) ≡ k → get_or xs k 0 ≡ get_or ys k 0
-    unfolding bytes_in
-    byte_there p i k li e =
-        let b = eb p c h s i in
-        grind (arith, nat_tests)
-
-    in_slot : (k r : ℕ) → (leb first k && ltb k (first + area g)) ≡ true → (k - first) % slot_size g ≡ r → r < g.length + 11 → first + slot_at g c h s + r ≡ k → get_or xs k 0 ≡ get_or ys k 0
-    unfolding besides
-    in_slot k r i er' lr e =
-        let marks : r ≡ 0 → get_or xs k 0 ≡ get_or ys k 0 = λ z. let m = mark_there Id k (omega arith) in let n = mark_there Data k (omega arith) in let b = er k in grind (arith, nat_tests) in
-        let id : 1 ≤ r → r < 7 → get_or xs k 0 ≡ get_or ys k 0 = λ a b. byte_there Id (r - 1) k (omega arith) (omega arith) in
-        let field : 7 ≤ r → get_or xs k 0 ≡ get_or ys k 0 = λ a. byte_there Data (r - 7) k (omega arith) (omega arith) in
-        grind (arith, marks, id, field)
+  in_slot : (c h s k r : ℕ) → c < g.cylinders → h < g.heads → s < g.slots → (leb first k && ltb k (first + area g)) ≡ true → (k - first) % slot_size g ≡ r → r < g.length + 11 → first + slot_at g c h s + r ≡ k → get_or xs k 0 ≡ get_or ys k 0
+  unfolding besides marks_in bytes_in
+  in_slot c h s k r lc lh ls i er' lr e =
+      let marks : r ≡ 0 → get_or xs k 0 ≡ get_or ys k 0 = λ z. let m = em Id c h s in let n = em Data c h s in let b = er k in grind (arith, nat_tests) in
+      let id : 1 ≤ r → r < 7 → get_or xs k 0 ≡ get_or ys k 0 = λ a b. let m = eb Id c h s (r - 1) in grind (arith, nat_tests) in
+      let field : 7 ≤ r → get_or xs k 0 ≡ get_or ys k 0 = λ a. let m = eb Data c h s (r - 7) in grind (arith, nat_tests) in
+      grind (arith, marks, id, field)
 
   named : (k : ℕ) → get_or xs k 0 ≡ get_or ys k 0
   unfolding besides
@@ -84,7 +71,7 @@ module _ (g : Shape) (first : ℕ) (xs ys : List ℕ) (em : (p : Part) (c h s : 
       let low : first ≤ k = grind (arith, nat_tests) in
       let inside : o < area g = grind (arith, nat_tests) in
       let at = exists g o inside in
-      in_slot (track g o / g.heads) (track g o % g.heads) (q g o % g.slots) at.0 at.1 at.2 k (o % (g.length + 11)) i refl (mod_below o (g.length + 11) (omega arith)) (omega (arith, placed_at g o)) in
+      in_slot (track g o / g.heads) (track g o % g.heads) (q g o % g.slots) k (o % (g.length + 11)) at.0 at.1 at.2 i refl (mod_below o (g.length + 11) (omega arith)) (omega (arith, placed_at g o)) in
       let rest = er k in
       grind (arith, nat_tests, there)
 
