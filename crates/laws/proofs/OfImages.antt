@@ -4,7 +4,7 @@ use Rattle.std.proofs.lemmas.Nat.{mul-le}
 use Rattle.std.proofs.lemmas.Bool.{cond-true}
 use Rattle.std.proofs.lemmas.Bool.Decides.{nat_tests}
 use Rattle.std.proofs.lemmas.Grind.{common_steps}
-use Rattle.drives.specs.Bounds.{within, bounded}
+use Rattle.drives.specs.Bounds.{within}
 use Rattle.drives.specs.Drives.{Shape, no_shape}
 use Rattle.units.specs.declared.layout.Layout.{Layout}
 use Rattle.units.specs.Rows.{area}
@@ -37,7 +37,6 @@ judged_fits : (n c h s len z d : ℕ) (r : Result Shape TrailerField) (l : Layou
 judged_fits n c h s len z d (Ok g) l b e =
     let k : Layout = record { first = n - 16 - d; cylinders = g.cylinders; heads = g.heads; slots = g.slots; length = g.length } in
     let same : k ≡ l = grind (arith, nat_tests) in
-    let bounds : bounded g.cylinders g.heads g.slots g.length ≡ true = grind (arith, nat_tests) in
     let fit : fits k n ≡ true = grind (arith, nat_tests) in
     rw (← same) fit
 judged_fits n c h s len z d (Err f) l b e = cc
@@ -45,7 +44,8 @@ judged_fits n c h s len z d (Err f) l b e = cc
 accepted_fits : (image : List ℕ) (l : Layout) → verdict image ≡ Ok l → fits l (length image) ≡ true
 unfolding verdict
 accepted_fits image l e =
-    judged_fits (length image) (last image 16 * 256 + last image 15) (last image 14) (last image 13) (last image 12 * 256 + last image 11) (last image 10 * 256 + last image 9) (((last image 8 * 256 + last image 7) * 256 + last image 6) * 256 + last image 5) _ l refl (tests_passed (ltb (length image) 16) (marked image) _ l e)
+    let t : ℕ → ℕ = last image in
+    judged_fits (length image) (t 16 * 256 + t 15) (t 14) (t 13) (t 12 * 256 + t 11) (t 10 * 256 + t 9) (((t 8 * 256 + t 7) * 256 + t 6) * 256 + t 5) _ l refl (tests_passed (ltb (length image) 16) (marked image) _ l e)
 
 new_unit : (l : Layout) (ready : Bool) (image : List ℕ) (g : Shape) → shape_in l (length image) ≡ g → NewUnit (unit_of (new l ready) image) g ready
 unfolding unit_of
@@ -85,15 +85,11 @@ only_the_trailer xs ys e f = rw (verdict_reads xs, verdict_reads ys, read_same _
 
 -- ---- blank images
 
--- a byte of the tail, from the end
-at_end : (n : ℕ) (t : List ℕ) (k : ℕ) → k ≤ length t → last (replicate n 0 ++ t) k ≡ get_or t (length t - k) 0
-at_end n t k e = grind (arith, common_steps)
-
 -- an image that ends with sixteen bytes
 ended : (n : ℕ) (t : List ℕ) → length t ≡ 16 → verdict (replicate n 0 ++ t) ≡ read (n + 16) (λ k. get_or t (16 - k) 0)
 ended n t e =
     let size : length (replicate n 0 ++ t) ≡ n + 16 = grind (arith, common_steps) in
-    rw (verdict_reads, read_same _ (last (replicate n 0 ++ t)) (λ k. get_or t (16 - k) 0) (λ k l m. rw (← e) (at_end n t k (omega arith))), size)
+    rw (verdict_reads, read_same _ (last (replicate n 0 ++ t)) (λ k. get_or t (16 - k) 0) (λ k l m. grind (arith, common_steps)), size)
 
 -- numbers from their bytes
 distance : (n : ℕ) → n < 2 ^ 32 → ((n / 0x1000000 % 256 * 256 + n / 0x10000 % 256) * 256 + n / 0x100 % 256) * 256 + n % 256 ≡ n
