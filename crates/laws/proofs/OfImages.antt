@@ -37,8 +37,7 @@ judged_fits : (n c h s len z d : ℕ) (r : Result Shape TrailerField) (l : Layou
 judged_fits n c h s len z d (Ok g) l b e =
     let k : Layout = record { first = n - 16 - d; cylinders = g.cylinders; heads = g.heads; slots = g.slots; length = g.length } in
     let same : k ≡ l = grind (arith, nat_tests) in
-    let fit : fits k n ≡ true = grind (arith, nat_tests) in
-    rw (← same) fit
+    rw (← same) (grind (arith, nat_tests))
 judged_fits n c h s len z d (Err f) l b e = cc
 
 accepted_fits : (image : List ℕ) (l : Layout) → verdict image ≡ Ok l → fits l (length image) ≡ true
@@ -99,8 +98,7 @@ read_blank : (n : ℕ) (g : Shape) → n ≡ area g → in_bounds g.cylinders g.
 unfolding read
 read_blank n g e b m =
     let placed : then_placed (Ok g) (n + 16) 0 n ≡ Ok (record { first = 0; cylinders = g.cylinders; heads = g.heads; slots = g.slots; length = g.length }) = grind (arith, nat_tests) in
-    let long : ltb (n + 16) 16 ≡ false = grind (arith, nat_tests) in
-    grind (arith, distance)
+    grind (arith, nat_tests, distance)
 
 small : (c h s l : ℕ) → (within 1 2048 c && (within 1 8 h && (within 1 32 s && within 128 4095 l))) ≡ true → c * h * s * (l + 11) < 2 ^ 32
 small c h s l e =

@@ -68,10 +68,9 @@ module _ (g : Shape) (first : ℕ) (xs ys : List ℕ) (em : (p : Part) (c h s : 
   named k =
       let o : ℕ = k - first in
       let there : (leb first k && ltb k (first + area g)) ≡ true → get_or xs k 0 ≡ get_or ys k 0 = λ i.
-      let low : first ≤ k = grind (arith, nat_tests) in
       let inside : o < area g = grind (arith, nat_tests) in
       let at = exists g o inside in
-      in_slot (track g o / g.heads) (track g o % g.heads) (q g o % g.slots) k (o % (g.length + 11)) at.0 at.1 at.2 i refl (mod_below o (g.length + 11) (omega arith)) (omega (arith, placed_at g o)) in
+      in_slot (track g o / g.heads) (track g o % g.heads) (q g o % g.slots) k (o % (g.length + 11)) at.0 at.1 at.2 i refl (mod_below o (g.length + 11) (omega arith)) (grind (arith, nat_tests, placed_at g o)) in
       let rest = er k in
       grind (arith, nat_tests, there)
 
