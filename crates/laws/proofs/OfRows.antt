@@ -1,233 +1,121 @@
 -- The theorems on rows.
-use Rattle.std.proofs.Common.{◌≡◌, ℕ, zero, suc, ◌+◌, ◌-◌, ◌*◌, ◌/◌, ◌%◌, ◌<◌, ◌≤◌, Bool, true, false, ◌&&◌, eqb, ltb, leb, List, length, get_or, set, sym, refl, ap, ◌∙◌, subst, ap₂, ⊎_elim, arith}
+use Rattle.std.proofs.Common.{◌≡◌, ℕ, ◌+◌, ◌-◌, ◌*◌, ◌/◌, ◌%◌, ◌<◌, ◌≤◌, Bool, true, false, cond, ◌&&◌, ltb, leb, List, length, get_or, sym, refl, ap, ◌∙◌, arith}
 use Rattle.std.proofs.lemmas.Nat.{div-add-mod', div_below, mod_below}
 use Rattle.std.proofs.lemmas.List.{ext_get_or}
-use Rattle.std.proofs.lemmas.Bool.{cases_lt, cases_eq, cases_Bool, cond-true, cond-false, and_parts, ltb-true}
+use Rattle.std.proofs.lemmas.Bool.{cond-true, and_parts, ltb-true}
 use Rattle.std.proofs.lemmas.Bool.Decides.{nat_tests}
 use Rattle.drives.specs.declared.parts.Part.{Part}
 use Rattle.drives.specs.declared.parts.Part.TheVariants.{Id, Data}
 use Rattle.drives.specs.Drives.{Drive, Shape, is_place, is_byte, part_size}
-use Rattle.drives.specs.Sound.{Rest, nothing, memory, both}
+use Rattle.drives.specs.Sound.{memory}
 use Rattle.units.specs.declared.layout.Layout.{Layout}
 use Rattle.drives.specs.Changes.{with_cylinder, with_line, with_mark, with_byte}
 use Rattle.units.specs.declared.unit.State.{State}
-use Rattle.units.specs.Rows.{slot_size, slot_at, area, part_start, mark_bit, with_bit, marks_in, bytes_in, besides}
-use Rattle.units.specs.Units.{said, fits, shape_in, standing, lines_of, unit_of, rest_of}
+use Rattle.units.specs.Rows.{slot_size, slot_at, area, marks_in, bytes_in, besides}
+use Rattle.units.specs.Units.{said, shape_in, standing, lines_of, unit_of, rest_of}
 use Rattle.laws.specs.OfStrings.{step, line_to, mark_to, byte_to}
-use Rattle.laws.specs.OfRows.{WhereThingsLie, EveryByteIsNamed, row_after, ExactlyThatByteChanges}
+use Rattle.laws.specs.OfRows.{WhereThingsLie, EveryByteIsNamed, ExactlyThatByteChanges}
 use Rattle.units.proofs.Places.{row_holds, no_mark_changes, no_byte_changes, mark_set, byte_set, mark_rest, byte_rest, written, rest_written}
 use Rattle.units.proofs.Slots.{slot_inside}
 
 -- ---- where things lie
 
-is_there : (g : Shape) (c h s : ℕ) → c < g.cylinders → h < g.heads → s < g.slots → is_place g c h s ≡ true
-is_there g c h s lc lh ls = grind (arith, nat_tests)
-
-is_there_byte : (g : Shape) (p : Part) (c h s i : ℕ) → c < g.cylinders → h < g.heads → s < g.slots → i < part_size g p → is_byte g p c h s i ≡ true
-is_there_byte g p c h s i lc lh ls li = grind (arith, nat_tests)
-
-fitting : (l : Layout) (n : ℕ) → fits l n ≡ true → l.first + area (said l) ≤ n
-fitting l n e = grind (arith, nat_tests)
-
 pub where_they_lie : WhereThingsLie
 unfolding unit_of marks_in bytes_in slot_at
 where_they_lie st row p c h s e lc lh ls =
     let l : Layout = st.layout in
-    let whole : shape_in l (length row) ≡ said l = cond-true _ _ _ e in (
-      omega (arith, fitting l (length row) e, slot_inside (said l) c h s lc lh ls),
-      ap (λ g. marks_in g l.first row p c h s) whole ∙ cond-true _ _ _ (is_there (said l) c h s lc lh ls),
-      λ i li.
-          ap (λ g. bytes_in g l.first row p c h s i) whole
-          ∙ (cond-true _ _ _ (is_there_byte (said l) p c h s i lc lh ls li) ∙ ap (λ k. get_or row k 0) (omega arith)),
+    let whole : shape_in l (length row) ≡ said l = cond-true _ _ _ e in
+    let lies : l.first + area (said l) ≤ length row = grind (arith, nat_tests) in (
+      omega (arith, lies, slot_inside (said l) c h s lc lh ls),
+      rw whole (grind (arith, nat_tests)),
+      λ i li. rw whole (grind (arith, nat_tests)),
     )
 
 -- ---- every byte is named
 
--- a product above some number has no factor 0
-positive : (a b n : ℕ) → n < a * b → 0 < b
-positive a zero n l = absurd (omega arith)
-positive a (suc b) n l = omega arith
-
 -- the place of byte o of the area: its slot, counted over all tracks, and that slot's number, head and cylinder
 module _ (g : Shape) (o : ℕ) where
-  q : ℕ
+  abbrev q : ℕ
   q = o / (g.length + 11)
 
-  slot : ℕ
-  slot = q % g.slots
-
-  track : ℕ
+  abbrev track : ℕ
   track = q / g.slots
 
-  head : ℕ
-  head = track % g.heads
-
-  cyl : ℕ
-  cyl = track / g.heads
-
-  module _ (inside : o < area g) where
-    q_below : q < g.cylinders * g.heads * g.slots
-    unfolding q
-    q_below = div_below o (g.length + 11) (g.cylinders * g.heads * g.slots) (omega arith) inside
-
-    slot_below : slot < g.slots
-    unfolding slot
-    slot_below = mod_below q g.slots (positive (g.cylinders * g.heads) g.slots q q_below)
-
-    track_below : track < g.cylinders * g.heads
-    unfolding track
-    track_below = div_below q g.slots (g.cylinders * g.heads) (positive (g.cylinders * g.heads) g.slots q q_below) q_below
-
-    head_below : head < g.heads
-    unfolding head
-    head_below = mod_below track g.heads (positive g.cylinders g.heads track track_below)
-
-    cyl_below : cyl < g.cylinders
-    unfolding cyl
-    cyl_below = div_below track g.heads g.cylinders (positive g.cylinders g.heads track track_below) track_below
+  exists : o < area g → (track / g.heads < g.cylinders) × (track % g.heads < g.heads) × (q % g.slots < g.slots)
+  exists inside =
+      let a : q < g.cylinders * g.heads * g.slots = div_below o (g.length + 11) (g.cylinders * g.heads * g.slots) (omega arith) inside in
+      let slots : 0 < g.slots = grind (arith, nat_tests) in
+      let b : track < g.cylinders * g.heads = div_below q g.slots (g.cylinders * g.heads) slots a in
+      let heads : 0 < g.heads = grind (arith, nat_tests) in
+      (div_below track g.heads g.cylinders heads b, mod_below track g.heads heads, mod_below q g.slots slots)
 
   -- and there it lies
-  placed_at : slot_at g cyl head slot + o % (g.length + 11) ≡ o
-  unfolding slot_at q slot track head cyl
-  placed_at =
-      ap (λ t. (t * g.slots + slot) * (g.length + 11) + o % (g.length + 11)) (div-add-mod' track g.heads)
-      ∙ (ap (λ t. t * (g.length + 11) + o % (g.length + 11)) (div-add-mod' q g.slots) ∙ div-add-mod' o (g.length + 11))
-
--- a byte is known by its two low bits and the others
-same_bit : (a b : ℕ) → eqb (a % 2) 1 ≡ eqb (b % 2) 1 → a % 2 ≡ b % 2
-same_bit a b e = grind (arith, nat_tests)
-
-same_byte : (a b : ℕ) → mark_bit Id a ≡ mark_bit Id b → mark_bit Data a ≡ mark_bit Data b → a / 4 ≡ b / 4 → a ≡ b
-same_byte a b e f r =
-    let x : a % 2 ≡ b % 2 = same_bit a b e in
-    let y : a / 2 % 2 ≡ b / 2 % 2 = same_bit (a / 2) (b / 2) f in
-    omega arith
+  placed_at : slot_at g (track / g.heads) (track % g.heads) (q % g.slots) + o % (g.length + 11) ≡ o
+  unfolding slot_at
+  placed_at = rw (div-add-mod' track g.heads, div-add-mod' q g.slots, div-add-mod' o (g.length + 11))
 
 module _ (g : Shape) (first : ℕ) (xs ys : List ℕ) (em : (p : Part) (c h s : ℕ) → marks_in g first xs p c h s ≡ marks_in g first ys p c h s) (eb : (p : Part) (c h s i : ℕ) → bytes_in g first xs p c h s i ≡ bytes_in g first ys p c h s i) (er : (k : ℕ) → besides g first xs k ≡ besides g first ys k) where
-  outside : (k : ℕ) → (leb first k && ltb k (first + area g)) ≡ false → get_or xs k 0 ≡ get_or ys k 0
-  unfolding besides
-  outside k n = sym (cond-false _ _ _ n) ∙ (er k ∙ cond-false _ _ _ n)
-
-  module _ (c h s : ℕ) (lc : c < g.cylinders) (lh : h < g.heads) (ls : s < g.slots) where
-    mark_there : (p : Part) (k : ℕ) → first + slot_at g c h s ≡ k → mark_bit p (get_or xs k 0) ≡ mark_bit p (get_or ys k 0)
-    unfolding marks_in
-    mark_there p k e =
-        let t = is_there g c h s lc lh ls in
-        subst (λ (j : ℕ). mark_bit p (get_or xs j 0) ≡ mark_bit p (get_or ys j 0)) e (sym (cond-true _ _ _ t) ∙ (em p c h s ∙ cond-true _ _ _ t))
-
-    byte_there : (p : Part) (i k : ℕ) → i < part_size g p → first + slot_at g c h s + (part_start p + i) ≡ k → get_or xs k 0 ≡ get_or ys k 0
-    unfolding bytes_in
-    byte_there p i k li e =
-        let t = is_there_byte g p c h s i lc lh ls li in
-        subst (λ (j : ℕ). get_or xs j 0 ≡ get_or ys j 0) e (sym (cond-true _ _ _ t) ∙ (eb p c h s i ∙ cond-true _ _ _ t))
-
-    in_slot : (k r : ℕ) → (leb first k && ltb k (first + area g)) ≡ true → (k - first) % slot_size g ≡ r → r < g.length + 11 → first + slot_at g c h s + r ≡ k → get_or xs k 0 ≡ get_or ys k 0
-    unfolding besides
-    in_slot k r i er' lr e =
-        ⊎_elim
-        (λ (z : r ≡ 0).
-        let here : eqb ((k - first) % slot_size g) 0 ≡ true = grind (arith, nat_tests) in
-        let at : first + slot_at g c h s ≡ k = omega arith in
-        let rest : get_or xs k 0 / 4 ≡ get_or ys k 0 / 4 = sym (cond-true _ _ _ i ∙ cond-true _ _ _ here) ∙ (er k ∙ (cond-true _ _ _ i ∙ cond-true _ _ _ here)) in
-        same_byte (get_or xs k 0) (get_or ys k 0) (mark_there Id k at) (mark_there Data k at) rest)
-        (λ (n : r ≡ 0 → ⊥).
-        let some : 0 < r = omega arith in
-        ⊎_elim (λ (l : r < 7). byte_there Id (r - 1) k (omega arith) (omega arith))
-        (λ (l : 7 ≤ r). byte_there Data (r - 7) k (omega arith) (omega arith))
-        (cases_lt r 7))
-        (cases_eq r 0)
+  in_slot : (c h s k r : ℕ) → c < g.cylinders → h < g.heads → s < g.slots → (leb first k && ltb k (first + area g)) ≡ true → (k - first) % slot_size g ≡ r → r < g.length + 11 → first + slot_at g c h s + r ≡ k → get_or xs k 0 ≡ get_or ys k 0
+  unfolding besides marks_in bytes_in
+  in_slot c h s k r lc lh ls i er' lr e =
+      let marks : r ≡ 0 → get_or xs k 0 ≡ get_or ys k 0 = λ z. let m = em Id c h s in let n = em Data c h s in let b = er k in grind (arith, nat_tests) in
+      let id : 1 ≤ r → r < 7 → get_or xs k 0 ≡ get_or ys k 0 = λ a b. let m = eb Id c h s (r - 1) in grind (arith, nat_tests) in
+      let field : 7 ≤ r → get_or xs k 0 ≡ get_or ys k 0 = λ a. let m = eb Data c h s (r - 7) in grind (arith, nat_tests) in
+      grind (arith, marks, id, field)
 
   named : (k : ℕ) → get_or xs k 0 ≡ get_or ys k 0
+  unfolding besides
   named k =
-      ⊎_elim
-      (λ (i : (leb first k && ltb k (first + area g)) ≡ true).
-      let low : first ≤ k = grind (arith, nat_tests) in
-      let high : k < first + area g = grind (arith, nat_tests) in
       let o : ℕ = k - first in
-      let inside : o < area g = omega arith in
-      in_slot (cyl g o) (head g o) (slot g o) (cyl_below g o inside) (head_below g o inside) (slot_below g o inside) k (o % (g.length + 11)) i refl (mod_below o (g.length + 11) (omega arith))
-      (omega (arith, placed_at g o)))
-      (λ n. outside k n)
-      (cases_Bool (leb first k && ltb k (first + area g)))
-
--- the parts of a memory
-size_of : Rest → ℕ
-size_of nothing = 0
-size_of (memory n first f) = n
-size_of (both ds a b) = 0
-
-first_of : Rest → ℕ
-first_of nothing = 0
-first_of (memory n first f) = first
-first_of (both ds a b) = 0
-
-holds_of : Rest → ℕ → ℕ
-holds_of nothing k = 0
-holds_of (memory n first f) k = f k
-holds_of (both ds a b) k = 0
+      let there : (leb first k && ltb k (first + area g)) ≡ true → get_or xs k 0 ≡ get_or ys k 0 = λ i.
+      let inside : o < area g = grind (arith, nat_tests) in
+      let at = exists g o inside in
+      in_slot (track g o / g.heads) (track g o % g.heads) (q g o % g.slots) k (o % (g.length + 11)) at.0 at.1 at.2 i refl (mod_below o (g.length + 11) (omega arith)) (grind (arith, nat_tests, placed_at g o)) in
+      let rest = er k in
+      grind (arith, nat_tests, there)
 
 pub every_byte : EveryByteIsNamed
-unfolding unit_of size_of first_of holds_of
+unfolding unit_of
 every_byte st st' xs ys es em eb er =
-    let first : ℕ = st.layout.first in
-    let g : Shape = shape_in st.layout (length xs) in
-    let g' : Shape = shape_in st'.layout (length ys) in
-    let same : length xs ≡ length ys = ap size_of er in
-    let shape : g' ≡ g = sym es in
-    let begin : st'.layout.first ≡ first = sym (ap first_of er) in
-    ext_get_or 0 xs ys same
-    (λ k lk.
-    named g first xs ys
-    (λ p c h s. ap (λ (m : Part → ℕ → ℕ → ℕ → Bool). m p c h s) em ∙ ap₂ (λ (x : Shape) (b : ℕ). marks_in x b ys p c h s) shape begin)
-    (λ p c h s i. ap (λ (m : Part → ℕ → ℕ → ℕ → ℕ → ℕ). m p c h s i) eb ∙ ap₂ (λ (x : Shape) (b : ℕ). bytes_in x b ys p c h s i) shape begin)
-    (λ j. ap (λ (m : Rest). holds_of m j) er ∙ ap₂ (λ (x : Shape) (b : ℕ). besides x b ys j) shape begin)
-    k)
+    let same : length xs ≡ length ys = cc in
+    ext_get_or 0 xs ys same (λ k lk. named (shape_in st.layout (length xs)) st.layout.first xs ys (λ p c h s. cc) (λ p c h s i. cc) (λ j. cc) k)
 
 -- ---- exactly that byte changes
 
 -- the same unit and rest over another row
 same_unit : (st st' : State) (xs ys : List ℕ) → unit_of st' ys ≡ unit_of st xs → rest_of st' ys ≡ rest_of st xs → ys ≡ xs
-same_unit st st' xs ys eu er = every_byte st' st ys xs (ap (λ (d : Drive). d.shape) eu) (ap (λ (d : Drive). d.marks) eu) (ap (λ (d : Drive). d.bytes) eu) er
+same_unit st st' xs ys eu er = every_byte st' st ys xs (cc) (cc) (cc) er
 
-mark_changes : (st st' : State) (row row' : List ℕ) (p : Part) (h s : ℕ) (value : Bool) → unit_of st' row' ≡ with_mark p h s value (unit_of st row) → rest_of st' row' ≡ rest_of st row → row' ≡ row_after (mark_to p h s value) st row
-unfolding unit_of
-mark_changes st st' row row' p h s value eu er =
-    let g : Shape = shape_in st.layout (length row) in
-    let c : ℕ = standing st (length row) in
-    let first : ℕ = st.layout.first in
-    ⊎_elim
-    (λ (t : is_place g c h s ≡ true).
-    let fit = row_holds st.layout (length row) c h s t in
-    same_unit st st' (set row (first + slot_at g c h s) (with_bit p value (get_or row (first + slot_at g c h s) 0))) row'
-    (eu ∙ sym (written st row _ _ ∙ mark_set g (lines_of st) c first row h s t fit p value))
-    (er ∙ sym (rest_written st row _ _ ∙ ap (memory (length row) first) (mark_rest g (lines_of st) c first row h s t fit p value)))
-    ∙ sym (cond-true _ _ _ t))
-    (λ (n : is_place g c h s ≡ false).
-    same_unit st st' row row' (eu ∙ no_mark_changes p h s value (unit_of st row) n) er ∙ sym (cond-false _ _ _ n))
-    (cases_Bool (is_place g c h s))
-
-byte_changes : (st st' : State) (row row' : List ℕ) (p : Part) (h s i value : ℕ) → unit_of st' row' ≡ with_byte p h s i value (unit_of st row) → rest_of st' row' ≡ rest_of st row → row' ≡ row_after (byte_to p h s i value) st row
-unfolding unit_of
-byte_changes st st' row row' p h s i value eu er =
-    let g : Shape = shape_in st.layout (length row) in
-    let c : ℕ = standing st (length row) in
-    let first : ℕ = st.layout.first in
-    ⊎_elim
-    (λ (t : is_byte g p c h s i ≡ true).
-    let there : is_place g c h s ≡ true = (and_parts _ _ t).0 in
-    let li : i < part_size g p = ltb-true _ _ (and_parts _ _ t).1 in
-    let fit = row_holds st.layout (length row) c h s there in
-    same_unit st st' (set row (first + slot_at g c h s + (part_start p + i)) value) row'
-    (eu ∙ sym (written st row _ _ ∙ byte_set g (lines_of st) c first row h s there fit p i value li))
-    (er ∙ sym (rest_written st row _ _ ∙ ap (memory (length row) first) (byte_rest g (lines_of st) c first row h s there fit p i value li)))
-    ∙ sym (cond-true _ _ _ t))
-    (λ (n : is_byte g p c h s i ≡ false).
-    same_unit st st' row row' (eu ∙ no_byte_changes p h s i value (unit_of st row) n) er ∙ sym (cond-false _ _ _ n))
-    (cases_Bool (is_byte g p c h s i))
+-- a row whose unit is d and whose rest stays: the new row where a place exists, and otherwise the old one
+changes_to : (st st' : State) (row row' new : List ℕ) (d : Drive) (there : Bool) → unit_of st' row' ≡ d → rest_of st' row' ≡ rest_of st row → (there ≡ true → (unit_of st new ≡ d) × (rest_of st new ≡ rest_of st row)) → (there ≡ false → d ≡ unit_of st row) → row' ≡ cond there new row
+changes_to st st' row row' new d true eu er found missing = same_unit st st' new row' (eu ∙ sym (found refl).0) (er ∙ sym (found refl).1)
+changes_to st st' row row' new d false eu er found missing = same_unit st st' row row' (eu ∙ missing refl) er
 
 pub exactly_that_byte : ExactlyThatByteChanges
-unfolding with_cylinder with_line
-exactly_that_byte st st' row row' (step direction) eu er = every_byte st' st row' row (ap (λ (d : Drive). d.shape) eu) (ap (λ (d : Drive). d.marks) eu) (ap (λ (d : Drive). d.bytes) eu) er
-exactly_that_byte st st' row row' (line_to line value) eu er = every_byte st' st row' row (ap (λ (d : Drive). d.shape) eu) (ap (λ (d : Drive). d.marks) eu) (ap (λ (d : Drive). d.bytes) eu) er
-exactly_that_byte st st' row row' (mark_to p h s value) eu er = mark_changes st st' row row' p h s value eu er
-exactly_that_byte st st' row row' (byte_to p h s i value) eu er = byte_changes st st' row row' p h s i value eu er
+unfolding unit_of with_cylinder with_line
+exactly_that_byte st st' row row' (step direction) eu er = every_byte st' st row' row (cc) (cc) (cc) er
+exactly_that_byte st st' row row' (line_to line value) eu er = every_byte st' st row' row (cc) (cc) (cc) er
+exactly_that_byte st st' row row' (mark_to p h s value) eu er =
+    let g : Shape = shape_in st.layout (length row) in
+    let c : ℕ = standing st (length row) in
+    let first : ℕ = st.layout.first in
+    changes_to st st' row row' _ (with_mark p h s value (unit_of st row)) (is_place g c h s) eu er
+    (λ t.
+    let fit = row_holds st.layout (length row) c h s t in (
+      written st row _ _ ∙ mark_set g (lines_of st) c first row h s t fit p value,
+      rest_written st row _ _ ∙ ap (memory (length row) first) (mark_rest g (lines_of st) c first row h s t fit p value),
+    ))
+    (no_mark_changes p h s value (unit_of st row))
+exactly_that_byte st st' row row' (byte_to p h s i value) eu er =
+    let g : Shape = shape_in st.layout (length row) in
+    let c : ℕ = standing st (length row) in
+    let first : ℕ = st.layout.first in
+    changes_to st st' row row' _ (with_byte p h s i value (unit_of st row)) (is_byte g p c h s i) eu er
+    (λ t.
+    let there = and_parts (is_place g c h s) _ t in
+    let fit = row_holds st.layout (length row) c h s there.0 in
+    let li = ltb-true i (part_size g p) there.1 in (
+      written st row _ _ ∙ byte_set g (lines_of st) c first row h s there.0 fit p i value li,
+      rest_written st row _ _ ∙ ap (memory (length row) first) (byte_rest g (lines_of st) c first row h s there.0 fit p i value li),
+    ))
+    (no_byte_changes p h s i value (unit_of st row))

@@ -1,190 +1,88 @@
 -- The theorems on changes.
-use Rattle.std.proofs.Common.{◌≡◌, ℕ, zero, suc, ◌-◌, ◌<◌, ◌≤◌, Bool, true, false, cond, not, ◌&&◌, eqb, ◌≢◌, List, [], ◌∷◌, length, get_or, refl, ap, ◌∙◌, subst, ⊎_elim, arith, length-set, get_or-set_other, get_or-set_same}
+use Rattle.std.proofs.Common.{◌≡◌, ℕ, zero, suc, ◌≤◌, true, List, [], ◌∷◌, length, refl, sym, arith, length-set, get_or-set_other, get_or-set_same}
 use Rattle.std.proofs.lemmas.List.{get_or_past}
-use Rattle.std.proofs.lemmas.Bool.{cases_lt, cond-true, cond-false, and_right, and_parts}
+use Rattle.std.proofs.lemmas.Bool.{and_parts}
 use Rattle.std.proofs.lemmas.Bool.Decides.{nat_tests}
 use Rattle.drives.specs.declared.parts.Part.{Part}
-use Rattle.drives.specs.declared.parts.Part.TheVariants.{Id, Data}
-use Rattle.drives.specs.declared.parts.Line.{Line}
-use Rattle.drives.specs.declared.parts.Line.TheVariants.{Ready, Protect, Fault}
-use Rattle.drives.specs.declared.parts.Direction.{Direction}
-use Rattle.drives.specs.declared.parts.Direction.TheVariants.{Inward, Outward}
-use Rattle.drives.specs.Drives.{Drive, Shape, drive, absent, is_place, is_byte, mark_here, byte_here}
-use Rattle.drives.specs.Changes.{changed, next_cylinder, with_cylinder, with_line, with_mark, with_byte, same_line, same_part, same_place}
+use Rattle.drives.specs.Drives.{Drive, drive, absent, is_place, mark_here, byte_here}
+use Rattle.drives.specs.Changes.{changed, with_cylinder, with_line, with_mark, with_byte, same_part}
 use Rattle.drives.specs.Sound.{SoundDrive}
-use Rattle.laws.specs.OfStrings.{Change, step, line_to, mark_to, byte_to, made, WhatNeverChanges, OtherUnitsStay, HeldStaysProtected, StringsStaySound, MarksReadBack, BytesReadBack}
+use Rattle.laws.specs.OfStrings.{step, line_to, mark_to, byte_to, made, WhatNeverChanges, OtherUnitsStay, HeldStaysProtected, StringsStaySound, MarksReadBack, BytesReadBack}
 
 -- ---- one unit of a string
 
-changed_length : (ds : List Drive) (u : ℕ) (f : Drive → Drive) → length (changed ds u f) ≡ length ds
-unfolding changed
-changed_length ds u f = length-set ds u (f (get_or ds u absent))
+-- what relates every unit to itself, and to itself after the change, relates each unit of the string to what it then is
+related : (R : Drive → Drive → Type 0) → ((d : Drive) → R d d) → (f : Drive → Drive) → ((d : Drive) → R d (f d)) → (ds : List Drive) (u v : ℕ) → R (drive ds v) (drive (changed ds u f) v)
+unfolding changed drive
+related R r f e [] u v = r absent
+related R r f e (d ∷ ds) zero zero = e d
+related R r f e (d ∷ ds) zero (suc v) = r (drive ds v)
+related R r f e (d ∷ ds) (suc u) zero = r d
+related R r f e (d ∷ ds) (suc u) (suc v) = related R r f e ds u v
 
 -- what a change leaves alone in every unit shows as before
 kept : {X : Type 0} (q : Drive → X) (f : Drive → Drive) → ((d : Drive) → q (f d) ≡ q d) → (ds : List Drive) (u v : ℕ) → q (drive (changed ds u f) v) ≡ q (drive ds v)
-unfolding changed drive
-kept q f e [] u v = refl
-kept q f e (d ∷ ds) zero zero = e d
-kept q f e (d ∷ ds) zero (suc v) = refl
-kept q f e (d ∷ ds) (suc u) zero = refl
-kept q f e (d ∷ ds) (suc u) (suc v) = kept q f e ds u v
+kept q f = related (λ d d'. q d' ≡ q d) (λ d. refl) f
 
--- what holds of every unit, and of a unit after the change, holds of every unit after the change
-still : (P : Drive → Type 0) (f : Drive → Drive) → ((d : Drive) → P d → P (f d)) → (ds : List Drive) → ((v : ℕ) → P (drive ds v)) → (u v : ℕ) → P (drive (changed ds u f) v)
+-- a unit that has a place exists, and is changed
+is_changed : (ds : List Drive) (u c h s : ℕ) (f : Drive → Drive) → is_place (drive ds u).shape c h s ≡ true → drive (changed ds u f) u ≡ f (drive ds u)
 unfolding changed drive
-still P f e [] a u v = a v
-still P f e (d ∷ ds) a zero zero = e d (a zero)
-still P f e (d ∷ ds) a zero (suc v) = a (suc v)
-still P f e (d ∷ ds) a (suc u) zero = a zero
-still P f e (d ∷ ds) a (suc u) (suc v) = still P f e ds (λ w. a (suc w)) u v
-
-unit_changed : (ds : List Drive) (u : ℕ) (f : Drive → Drive) → u < length ds → drive (changed ds u f) u ≡ f (drive ds u)
-unfolding changed drive
-unit_changed ds u f l = get_or-set_same ds u (f (get_or ds u absent)) absent l
-
--- a unit that has a place exists
-exists : (ds : List Drive) (u c h s : ℕ) → is_place (drive ds u).shape c h s ≡ true → u < length ds
-unfolding drive
-exists ds u c h s e =
-    ⊎_elim (λ l. l)
-    (λ l. absurd (let n : is_place absent.shape c h s ≡ true = subst (λ (d : Drive). is_place d.shape c h s ≡ true) (get_or_past ds u absent l) e in grind (arith, nat_tests)))
-    (cases_lt u (length ds))
+is_changed ds u c h s f e =
+    let past : length ds ≤ u → ⊥ = λ l. let n = rw (get_or_past ds u absent l) at e in grind (arith, nat_tests) in
+    get_or-set_same ds u _ absent (omega (arith, past))
 
 -- ---- what never changes
 
-same_shape : (change : Change) (d : Drive) → (made change d).shape ≡ d.shape
-unfolding with_cylinder with_line with_mark with_byte
-same_shape (step direction) d = refl
-same_shape (line_to line value) d = refl
-same_shape (mark_to p h s value) d = refl
-same_shape (byte_to p h s i value) d = refl
-
-same_held : (change : Change) (d : Drive) → (made change d).held ≡ d.held
-unfolding with_cylinder with_line with_mark with_byte
-same_held (step direction) d = refl
-same_held (line_to line value) d = refl
-same_held (mark_to p h s value) d = refl
-same_held (byte_to p h s i value) d = refl
-
 pub never_changes : WhatNeverChanges
+unfolding changed with_cylinder with_line with_mark with_byte
 never_changes ds u change v = (
-  changed_length ds u (made change),
-  kept (λ d. d.shape) (made change) (same_shape change) ds u v,
-  kept (λ d. d.held) (made change) (same_held change) ds u v,
+  length-set ds u _,
+  kept (λ d. d.shape) (made change) (λ d. grind (arith, nat_tests)) ds u v,
+  kept (λ d. d.held) (made change) (λ d. grind (arith, nat_tests)) ds u v,
 )
 
 pub others_stay : OtherUnitsStay
 unfolding changed drive
-others_stay ds u f v n = let ne : v ≢ u = n in get_or-set_other ds u v (f (get_or ds u absent)) absent ne
+others_stay ds u f v n = get_or-set_other ds u v _ absent n
 
 -- ---- sound units
 
-next_stands : (direction : Direction) (cylinders n : ℕ) → n ≤ cylinders - 1 → next_cylinder direction cylinders n ≤ cylinders - 1
-next_stands Inward cylinders n l = grind (arith, nat_tests)
-next_stands Outward cylinders n l = omega arith
-
-guarded : (line : Line) (value held before : Bool) → (held && not before) ≡ false → (held && not (cond (same_line line Protect && not (same_line line Protect && held)) value before)) ≡ false
-guarded Ready value held before e = e
-guarded Fault value held before e = e
-guarded Protect value true before e = e
-guarded Protect value false before e = refl
-
 same_part_is : (p p' : Part) → same_part p p' ≡ true → p ≡ p'
-same_part_is Id Id e = refl
-same_part_is Data Data e = refl
-same_part_is Id Data e = absurd (let z : ◌≡◌ {A = ℕ} 0 1 = cc in omega arith)
-same_part_is Data Id e = absurd (let z : ◌≡◌ {A = ℕ} 0 1 = cc in omega arith)
-
-no_mark_there : (g : Shape) (p p' : Part) (c h s c' h' s' : ℕ) (value before : Bool) → is_place g c' h' s' ≡ false → before ≡ false → cond (is_place g c h s && (same_part p p' && same_place c h s c' h' s')) value before ≡ false
-no_mark_there g p p' c h s c' h' s' value before n e = grind (arith, nat_tests)
-
-no_byte_there : (g : Shape) (p p' : Part) (c h s i c' h' s' i' value before : ℕ) → is_byte g p' c' h' s' i' ≡ false → before ≡ 0 → cond (is_byte g p c h s i && (same_part p p' && (same_place c h s c' h' s' && eqb i i'))) value before ≡ 0
-no_byte_there g p p' c h s i c' h' s' i' value before n e = let b = same_part_is p p' in grind (arith, nat_tests)
+same_part_is p p' e = grind (arith, nat_tests)
 
 pub stays_sound : HeldStaysProtected
 unfolding with_cylinder with_line with_mark with_byte
-stays_sound (step direction) d a =
-    record {
-      bounds = a.bounds;
-      standing = next_stands direction d.shape.cylinders d.cylinder a.standing;
-      protected = a.protected;
-      no_mark = a.no_mark;
-      no_byte = a.no_byte;
-    }
-stays_sound (line_to line value) d a =
-    record {
-      bounds = a.bounds;
-      standing = a.standing;
-      protected = guarded line value d.held (d.lines Protect) a.protected;
-      no_mark = a.no_mark;
-      no_byte = a.no_byte;
-    }
-stays_sound (mark_to p h s value) d a =
-    record {
-      bounds = a.bounds;
-      standing = a.standing;
-      protected = a.protected;
-      no_mark = λ p' c' h' s' n. no_mark_there d.shape p p' d.cylinder h s c' h' s' value (d.marks p' c' h' s') n (a.no_mark p' c' h' s' n);
-      no_byte = a.no_byte;
-    }
-stays_sound (byte_to p h s i value) d a =
-    record {
-      bounds = a.bounds;
-      standing = a.standing;
-      protected = a.protected;
-      no_mark = a.no_mark;
-      no_byte = λ p' c' h' s' i' n. no_byte_there d.shape p p' d.cylinder h s i c' h' s' i' value (d.bytes p' c' h' s' i') n (a.no_byte p' c' h' s' i' n);
-    }
+stays_sound (step direction) d a = record { bounds = a.bounds; standing = let b = a.standing in grind (arith, nat_tests); protected = a.protected; no_mark = a.no_mark; no_byte = a.no_byte }
+stays_sound (line_to line value) d a = record { bounds = a.bounds; standing = a.standing; protected = let b = a.protected in grind (arith, nat_tests); no_mark = a.no_mark; no_byte = a.no_byte }
+stays_sound (mark_to p h s value) d a = record { bounds = a.bounds; standing = a.standing; protected = a.protected; no_mark = λ p' c' h' s' n. let b = a.no_mark p' c' h' s' n in grind (arith, nat_tests); no_byte = a.no_byte }
+stays_sound (byte_to p h s i value) d a = record { bounds = a.bounds; standing = a.standing; protected = a.protected; no_mark = a.no_mark; no_byte = λ p' c' h' s' i' n. let b = a.no_byte p' c' h' s' i' n in let same = same_part_is p p' in grind (arith, nat_tests) }
 
 pub strings_sound : StringsStaySound
+unfolding changed
 strings_sound ds u change a =
-    let few : length ds ≤ 8 = a.few in
     record {
-      few = omega (arith, changed_length ds u (made change));
-      each = still SoundDrive (made change) (stays_sound change) ds a.each u;
+      few = rw (length-set ds u _) a.few;
+      each = λ v. related (λ d d'. SoundDrive d → SoundDrive d') (λ d b. b) (made change) (stays_sound change) ds u v (a.each v);
     }
 
 -- ---- what shows after a change
 
-same_part_self : (p : Part) → same_part p p ≡ true
-same_part_self Id = refl
-same_part_self Data = refl
-
-other_mark : (p p' : Part) (c h s h' s' : ℕ) → ((p' ≡ p) × (h' ≡ h) × (s' ≡ s) → ⊥) → (same_part p p' && same_place c h s c h' s') ≡ false
-other_mark Id Data c h s h' s' n = refl
-other_mark Data Id c h s h' s' n = refl
-other_mark Id Id c h s h' s' n = let m : h' ≡ h → s' ≡ s → ⊥ = λ a b. n (refl, a, b) in grind (arith, nat_tests)
-other_mark Data Data c h s h' s' n = let m : h' ≡ h → s' ≡ s → ⊥ = λ a b. n (refl, a, b) in grind (arith, nat_tests)
-
-other_byte : (p p' : Part) (c h s i h' s' i' : ℕ) → ((p' ≡ p) × (h' ≡ h) × (s' ≡ s) × (i' ≡ i) → ⊥) → (same_part p p' && (same_place c h s c h' s' && eqb i i')) ≡ false
-other_byte Id Data c h s i h' s' i' n = refl
-other_byte Data Id c h s i h' s' i' n = refl
-other_byte Id Id c h s i h' s' i' n = let m : h' ≡ h → s' ≡ s → i' ≡ i → ⊥ = λ a b e. n (refl, a, b, e) in grind (arith, nat_tests)
-other_byte Data Data c h s i h' s' i' n = let m : h' ≡ h → s' ≡ s → i' ≡ i → ⊥ = λ a b e. n (refl, a, b, e) in grind (arith, nat_tests)
-
-mark_shows : (p : Part) (h s : ℕ) (value : Bool) (d : Drive) → is_place d.shape d.cylinder h s ≡ true → mark_here (with_mark p h s value d) p h s ≡ value
-unfolding with_mark
-mark_shows p h s value d e = cond-true _ _ _ (let x = same_part_self p in let y : (is_place d.shape d.cylinder h s && (same_part p p && same_place d.cylinder h s d.cylinder h s)) ≡ true = grind (arith, nat_tests) in y)
-
-byte_shows : (p : Part) (h s i value : ℕ) (d : Drive) → is_byte d.shape p d.cylinder h s i ≡ true → byte_here (with_byte p h s i value d) p h s i ≡ value
-unfolding with_byte
-byte_shows p h s i value d e = cond-true _ _ _ (let x = same_part_self p in let y : (is_byte d.shape p d.cylinder h s i && (same_part p p && (same_place d.cylinder h s d.cylinder h s && eqb i i))) ≡ true = grind (arith, nat_tests) in y)
-
 pub marks_back : MarksReadBack
 unfolding with_mark
 marks_back ds u p h s value = (
-  λ e. ap (λ d. mark_here d p h s) (unit_changed ds u (with_mark p h s value) (exists ds u (drive ds u).cylinder h s e)) ∙ mark_shows p h s value (drive ds u) e,
-  λ p' h' s' n. kept (λ d. mark_here d p' h' s') (with_mark p h s value) (λ d. cond-false _ _ _ (and_right _ _ (other_mark p p' d.cylinder h s h' s' n))) ds u u,
+  λ e. rw (is_changed ds u (drive ds u).cylinder h s (with_mark p h s value) e) (grind (arith, nat_tests)),
+  λ p' h' s' n.
+      let other : p ≡ p' → h' ≡ h → s' ≡ s → ⊥ = λ a b e. n (sym a, b, e) in
+      kept (λ d. mark_here d p' h' s') (with_mark p h s value) (λ d. grind (arith, nat_tests)) ds u u,
   λ p' h' s' i'. kept (λ d. byte_here d p' h' s' i') (with_mark p h s value) (λ d. refl) ds u u,
 )
 
 pub bytes_back : BytesReadBack
 unfolding with_byte
 bytes_back ds u p h s i value = (
-  λ e. ap (λ d. byte_here d p h s i) (unit_changed ds u (with_byte p h s i value) (exists ds u (drive ds u).cylinder h s (placed e))) ∙ byte_shows p h s i value (drive ds u) e,
-  λ p' h' s' i' n. kept (λ d. byte_here d p' h' s' i') (with_byte p h s i value) (λ d. cond-false _ _ _ (and_right _ _ (other_byte p p' d.cylinder h s i h' s' i' n))) ds u u,
+  λ e. rw (is_changed ds u (drive ds u).cylinder h s (with_byte p h s i value) (and_parts _ _ e).0) (grind (arith, nat_tests)),
+  λ p' h' s' i' n.
+      let other : p ≡ p' → h' ≡ h → s' ≡ s → i' ≡ i → ⊥ = λ a b e f. n (sym a, b, e, f) in
+      kept (λ d. byte_here d p' h' s' i') (with_byte p h s i value) (λ d. grind (arith, nat_tests)) ds u u,
   λ p' h' s'. kept (λ d. mark_here d p' h' s') (with_byte p h s i value) (λ d. refl) ds u u,
 )
-  where
-    placed : is_byte (drive ds u).shape p (drive ds u).cylinder h s i ≡ true → is_place (drive ds u).shape (drive ds u).cylinder h s ≡ true
-    placed e = (and_parts _ _ e).0
