@@ -194,8 +194,8 @@ unit_line Ready value st row = ap (λ ls. with_lines ls st row) (fun_ext (one_li
 unit_line Protect value st row = ap (λ ls. with_lines ls st row) (fun_ext (one_line Protect value st))
 unit_line Fault value st row = ap (λ ls. with_lines ls st row) (fun_ext (one_line Fault value st))
 
-pub line_set : (line : Line) (value : Bool) (st : State) (row : List ℕ) (u : ℕ) → u ≡ 0 → alone (with_state_line line value st) row ≡ changed (alone st row) u (with_line line value)
-line_set line value st row u e = ap (λ d. d ∷ []) (unit_line line value st row) ∙ sym (changed_here (unit_of st row) u (with_line line value) e)
+pub line_set : (line : Line) (value : Bool) (st st' : State) (row : List ℕ) (u : ℕ) → st' ≡ with_state_line line value st → u ≡ 0 → alone st' row ≡ changed (alone st row) u (with_line line value)
+line_set line value st st' row u e z = rw e (ap (λ d. d ∷ []) (unit_line line value st row) ∙ sym (changed_here (unit_of st row) u (with_line line value) z))
 
 -- ---- the search for a slot
 
@@ -221,9 +221,25 @@ module _ (st : State) (row : List ℕ) (u h s : ℕ) (q : Shape) (size : ℕ) (e
       on : (q : Shape) (n : ℕ) → bounded q.cylinders q.heads q.slots q.length ≡ true → h < q.heads → s < q.slots → is_place q (min n (q.cylinders - 1)) h s ≡ true
       on q n b lh ls = grind (arith, nat_tests)
 
--- another unit
 pub elsewhere : (d : Drive) (u : ℕ) → (u ≡ 0 → ⊥) → drive (d ∷ []) u ≡ absent
 elsewhere d u n = shows_none d u (λ x. x) (λ e. absurd (n e))
 
 pub changed_elsewhere : (d : Drive) (u : ℕ) (f : Drive → Drive) → (u ≡ 0 → ⊥) → d ∷ [] ≡ changed (d ∷ []) u f
 changed_elsewhere d u f n = changes_none d u f (λ e. absurd (n e))
+
+-- what a unit alone shows
+module _ (st : State) (row : List ℕ) (u : ℕ) (e : u ≡ 0) where
+  pub here_shape : (drive (alone st row) u).shape ≡ shape_in st.layout (length row)
+  unfolding unit_of
+  here_shape = rw here
+
+  pub here_cylinder : (drive (alone st row) u).cylinder ≡ standing st (length row)
+  unfolding unit_of
+  here_cylinder = rw here
+
+  pub here_line : (line : Line) → (drive (alone st row) u).lines line ≡ lines_of st line
+  unfolding unit_of
+  here_line line = rw here
+
+-- what each method of a unit answers and alters
+pub ruleset alone_steps = (nat_tests, here_shape, here_cylinder, here_line, elsewhere, line_set, heads_moved, changed_elsewhere)
