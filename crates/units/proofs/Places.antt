@@ -21,12 +21,8 @@ use Rattle.units.proofs.Slots.{slot_inside, bit_shows, bits_kept, part_inside, p
 use Rattle.units.proofs.Writes.{marks_of, bytes_stay, marks_stay, bytes_of, rest_stays}
 
 -- a unit that has a place fits its row
-holds : (b : Bool) (g : Shape) (first n c h s : ℕ) → (b ≡ true → first + area g ≤ n) → is_place (cond b g no_shape) c h s ≡ true → first + area (cond b g no_shape) ≤ n
-holds true g first n c h s fit there = fit refl
-holds false g first n c h s fit there = absurd (grind (arith, nat_tests))
-
 pub row_holds : (l : Layout) (n c h s : ℕ) → is_place (shape_in l n) c h s ≡ true → l.first + area (shape_in l n) ≤ n
-row_holds l n c h s there = holds (fits l n) (said l) l.first n c h s (λ e. grind (arith, nat_tests)) there
+row_holds l n c h s there = grind (arith, nat_tests)
 
 -- a unit alone, by its number
 pub here : (d : Drive) (u : ℕ) → u ≡ 0 → drive (d ∷ []) u ≡ d
@@ -51,15 +47,11 @@ changes_none d (suc u) f n = refl
 -- a change of what does not exist is none
 pub no_mark_changes : (p : Part) (h s : ℕ) (value : Bool) (d : Drive) → is_place d.shape d.cylinder h s ≡ false → with_mark p h s value d ≡ d
 unfolding with_mark
-no_mark_changes p h s value d e =
-    ap (λ m. record d { marks = m })
-    (fun_ext (λ p'. fun_ext (λ c'. fun_ext (λ h'. fun_ext (λ s'. cond-false _ _ _ (and_left _ _ e))))))
+no_mark_changes p h s value d e = rw e
 
 pub no_byte_changes : (p : Part) (h s i value : ℕ) (d : Drive) → is_byte d.shape p d.cylinder h s i ≡ false → with_byte p h s i value d ≡ d
 unfolding with_byte
-no_byte_changes p h s i value d e =
-    ap (λ b. record d { bytes = b })
-    (fun_ext (λ p'. fun_ext (λ c'. fun_ext (λ h'. fun_ext (λ s'. fun_ext (λ i'. cond-false _ _ _ (and_left _ _ e)))))))
+no_byte_changes p h s i value d e = rw e
 
 -- a unit by its parts
 abbrev pub over : Shape → (Line → Bool) → ℕ → ℕ → List ℕ → Drive
@@ -205,21 +197,14 @@ module _ (st : State) (row : List ℕ) (u h s : ℕ) (q : Shape) (size : ℕ) (e
 
   -- the unit, the head or the slot does not exist
   pub not_found : (u ≡ 0 → is_place q (standing st (length row)) h s ≡ false) → Missing st row u h s
-  not_found n = missing st row u h s (λ z. subst (λ (x : Shape). is_place x (standing st (length row)) h s ≡ false) same_shape (n z))
+  not_found n = missing st row u h s (λ z. rw same_shape at (n z))
 
   -- they do: the standing cylinder exists too
   pub found : (k : ℕ) → length row < 2 ^ 64 → k ≡ standing st (length row) → bounded q.cylinders q.heads q.slots q.length ≡ true → u ≡ 0 → h < q.heads → s < q.slots → Standing st row u h s (st.layout.first + ((k * q.heads + h) * q.slots + s) * (q.length + 11))
   unfolding slot_at
   found k small ek bounds z lh ls =
-      let c : ℕ = standing st (length row) in
-      let ec : c ≡ min st.cylinder (q.cylinders - 1) = ap (λ (x : Shape). min st.cylinder (x.cylinders - 1)) (sym same_shape) in
-      let there : is_place q c h s ≡ true = rw ec (on q st.cylinder bounds lh ls) in
-      let whole = stands st row u h s small z (subst (λ (x : Shape). is_place x c h s ≡ true) same_shape there) in
-      subst (λ (x : ℕ). Standing st row u h s (st.layout.first + ((x * q.heads + h) * q.slots + s) * (q.length + 11))) (sym ek)
-      (subst (λ (x : Shape). Standing st row u h s (st.layout.first + ((c * x.heads + h) * x.slots + s) * (x.length + 11))) (sym same_shape) whole)
-    where
-      on : (q : Shape) (n : ℕ) → bounded q.cylinders q.heads q.slots q.length ≡ true → h < q.heads → s < q.slots → is_place q (min n (q.cylinders - 1)) h s ≡ true
-      on q n b lh ls = grind (arith, nat_tests)
+      let there : is_place q (min st.cylinder (q.cylinders - 1)) h s ≡ true = grind (arith, nat_tests) in
+      rw (ek, same_shape) (stands st row u h s small z (rw same_shape at there))
 
 pub elsewhere : (d : Drive) (u : ℕ) → (u ≡ 0 → ⊥) → drive (d ∷ []) u ≡ absent
 elsewhere d u n = shows_none d u (λ x. x) (λ e. absurd (n e))

@@ -13,19 +13,15 @@ module _ (g : Shape) (first : ℕ) (row : List ℕ) (c h s v : ℕ) (there : is_
   unfolding marks_in
   marks_of l p' c' h' s' =
       let t = there in
-      let x = get_d_set row (first + slot_at g c h s) (first + slot_at g c' h' s') v l in
       let y = same_slot g c h s c' h' s' 0 0 in
-      grind (arith, nat_tests)
+      grind (arith, nat_tests, get_d_set)
 
   pub bytes_stay : first + slot_at g c h s < length row → (p' : Part) (c' h' s' i' : ℕ) → bytes_in g first (set row (first + slot_at g c h s) v) p' c' h' s' i' ≡ bytes_in g first row p' c' h' s' i'
   unfolding bytes_in
   bytes_stay l p' c' h' s' i' =
       let t = there in
-      let x = get_d_set row (first + slot_at g c h s) (first + slot_at g c' h' s' + (part_start p' + i')) v l in
       let y = same_slot g c h s c' h' s' 0 (part_start p' + i') in
-      let z = part_inside g p' i' in
-      let w = part_after p' i' in
-      grind (arith, nat_tests)
+      grind (arith, nat_tests, get_d_set, part_inside, part_after)
 
   -- a byte of a part written
   module _ (p : Part) (i : ℕ) (li : i < part_size g p) where
@@ -33,23 +29,19 @@ module _ (g : Shape) (first : ℕ) (row : List ℕ) (c h s v : ℕ) (there : is_
     unfolding marks_in
     marks_stay l p' c' h' s' =
         let t = there in
-        let x = get_d_set row (first + slot_at g c h s + (part_start p + i)) (first + slot_at g c' h' s') v l in
         let y = same_slot g c h s c' h' s' (part_start p + i) 0 in
-        let z = part_inside g p i li in
-        let w = part_after p i in
-        grind (arith, nat_tests)
+        grind (arith, nat_tests, get_d_set, part_inside, part_after)
 
     pub bytes_of : first + slot_at g c h s + (part_start p + i) < length row → (p' : Part) (c' h' s' i' : ℕ) → bytes_in g first (set row (first + slot_at g c h s + (part_start p + i)) v) p' c' h' s' i' ≡ cond (is_byte g p c h s i && (same_part p p' && (same_place c h s c' h' s' && eqb i i'))) v (bytes_in g first row p' c' h' s' i')
     unfolding bytes_in
     bytes_of l p' c' h' s' i' =
         let t = there in
-        let x = get_d_set row (first + slot_at g c h s + (part_start p + i)) (first + slot_at g c' h' s' + (part_start p' + i')) v l in
         let y = same_slot g c h s c' h' s' (part_start p + i) (part_start p' + i') in
         let z = part_inside g p i li in
         let w = part_inside g p' i' in
         let a = part_apart g p p' i i' li in
         let b = same_part_is p p' in
-        grind (arith, nat_tests)
+        grind (arith, nat_tests, get_d_set)
 
 -- the row besides: a byte of marks keeps its other bits, and no other byte of a slot counts
 module _ (g : Shape) (first : ℕ) (row : List ℕ) (c h s r v : ℕ) (there : is_place g c h s ≡ true) (lr : r < g.length + 11) (inside : first + area g ≤ length row) where
@@ -68,5 +60,4 @@ module _ (g : Shape) (first : ℕ) (row : List ℕ) (c h s r v : ℕ) (there : i
   unfolding besides
   rest_stays e k =
       let q = placed in
-      let x = get_d_set row (first + slot_at g c h s + r) k v (omega arith) in
-      grind (arith, nat_tests)
+      grind (arith, nat_tests, get_d_set)
