@@ -17,21 +17,12 @@ use Rattle.units.specs.declared.unit.State.{State}
 use Rattle.units.specs.Rows.{slot_at, area, part_start, mark_bit, with_bit, marks_in, bytes_in, besides}
 use Rattle.units.specs.Units.{fits, said, shape_in, standing, lines_of, with_state_line, unit_of, alone, rest_of}
 use Rattle.units.specs.Found.{Missing, Standing}
-use Rattle.units.proofs.Slots.{slot_inside, bit_shows, bits_kept, part_inside, part_after}
+use Rattle.units.proofs.Slots.{place_inside, bits_kept, part_inside, part_after}
 use Rattle.units.proofs.Writes.{marks_of, bytes_stay, marks_stay, bytes_of, rest_stays}
 
 -- a unit that has a place fits its row
 pub row_holds : (l : Layout) (n c h s : ℕ) → is_place (shape_in l n) c h s ≡ true → l.first + area (shape_in l n) ≤ n
 row_holds l n c h s there = grind (arith, nat_tests)
-
--- a unit alone, by its number
-pub here : (d : Drive) (u : ℕ) → u ≡ 0 → drive (d ∷ []) u ≡ d
-unfolding drive
-here d u e = rw e
-
-pub changed_here : (d : Drive) (u : ℕ) (f : Drive → Drive) → u ≡ 0 → changed (d ∷ []) u f ≡ f d ∷ []
-unfolding changed
-changed_here d u f e = rw e
 
 -- where it is not the unit, or the unit shows nothing there
 pub shows_none : {X : Type 0} (d : Drive) (u : ℕ) (q : Drive → X) → (u ≡ 0 → q d ≡ q absent) → q (drive (d ∷ []) u) ≡ q absent
@@ -60,13 +51,7 @@ over g lines n first row = record { shape = g; lines = lines; held = false; cyli
 -- a place that stands in the row: what shows there, and what a write means
 module _ (g : Shape) (lines : Line → Bool) (c first : ℕ) (row : List ℕ) (h s : ℕ) (there : is_place g c h s ≡ true) (fit : first + area g ≤ length row) where
   inside_row : first + slot_at g c h s + (g.length + 11) ≤ length row
-  inside_row =
-      let t = there in
-      let lc : c < g.cylinders = grind (arith, nat_tests) in
-      let lh : h < g.heads = grind (arith, nat_tests) in
-      let ls : s < g.slots = grind (arith, nat_tests) in
-      let low = slot_inside g c h s lc lh ls in
-      omega arith
+  inside_row = omega (arith, place_inside g c h s there)
 
   mark_shows : (p : Part) → marks_in g first row p c h s ≡ mark_bit p (get_or row (first + slot_at g c h s) 0)
   unfolding marks_in
@@ -86,36 +71,25 @@ module _ (g : Shape) (lines : Line → Bool) (c first : ℕ) (row : List ℕ) (h
   pub mark_set : (p : Part) (value : Bool) → over g lines c first (set row (first + slot_at g c h s) (with_bit p value (get_or row (first + slot_at g c h s) 0))) ≡ with_mark p h s value (over g lines c first row)
   unfolding with_mark
   mark_set p value =
-      let v : ℕ = with_bit p value (get_or row (first + slot_at g c h s) 0) in
       let l : first + slot_at g c h s < length row = omega (arith, inside_row) in
       ap₂ (λ m b. record { shape = g; lines = lines; held = false; cylinder = c; marks = m; bytes = b })
-      (fun_ext (λ p'. fun_ext (λ c'. fun_ext (λ h'. fun_ext (λ s'. marks_of g first row c h s v there l p' c' h' s' ∙ one_mark p value p' c' h' s')))))
-      (fun_ext (λ p'. fun_ext (λ c'. fun_ext (λ h'. fun_ext (λ s'. fun_ext (λ i'. bytes_stay g first row c h s v there l p' c' h' s' i'))))))
-    where
-      one_mark : (p : Part) (value : Bool) (p' : Part) (c' h' s' : ℕ) → cond (same_place c h s c' h' s') (mark_bit p' (with_bit p value (get_or row (first + slot_at g c h s) 0))) (marks_in g first row p' c' h' s') ≡ cond (is_place g c h s && (same_part p p' && same_place c h s c' h' s')) value (marks_in g first row p' c' h' s')
-      one_mark p value p' c' h' s' =
-          let t = there in
-          let x = bit_shows p p' value (get_or row (first + slot_at g c h s) 0) in
-          let y = mark_shows p' in
-          grind (arith, nat_tests)
+      (fun_ext (λ p'. fun_ext (λ c'. fun_ext (λ h'. fun_ext (λ s'. marks_of g first row c h s there p value l p' c' h' s')))))
+      (fun_ext (λ p'. fun_ext (λ c'. fun_ext (λ h'. fun_ext (λ s'. fun_ext (λ i'. bytes_stay g first row c h s there _ l p' c' h' s' i'))))))
 
   pub byte_set : (p : Part) (i value : ℕ) → i < part_size g p → over g lines c first (set row (first + slot_at g c h s + (part_start p + i)) value) ≡ with_byte p h s i value (over g lines c first row)
   unfolding with_byte
   byte_set p i value li =
       let l : first + slot_at g c h s + (part_start p + i) < length row = omega (arith, inside_row, part_inside g p i li) in
       ap₂ (λ m b. record { shape = g; lines = lines; held = false; cylinder = c; marks = m; bytes = b })
-      (fun_ext (λ p'. fun_ext (λ c'. fun_ext (λ h'. fun_ext (λ s'. marks_stay g first row c h s value there p i li l p' c' h' s')))))
-      (fun_ext (λ p'. fun_ext (λ c'. fun_ext (λ h'. fun_ext (λ s'. fun_ext (λ i'. bytes_of g first row c h s value there p i li l p' c' h' s' i'))))))
+      (fun_ext (λ p'. fun_ext (λ c'. fun_ext (λ h'. fun_ext (λ s'. marks_stay g first row c h s there value p i li l p' c' h' s')))))
+      (fun_ext (λ p'. fun_ext (λ c'. fun_ext (λ h'. fun_ext (λ s'. fun_ext (λ i'. bytes_of g first row c h s there value p i li l p' c' h' s' i'))))))
 
   pub mark_rest : (p : Part) (value : Bool) → besides g first (set row (first + slot_at g c h s) (with_bit p value (get_or row (first + slot_at g c h s) 0))) ≡ besides g first row
-  mark_rest p value =
-      let k : first + slot_at g c h s + 0 ≡ first + slot_at g c h s = omega arith in
-      ap (λ x. besides g first (set row x (with_bit p value (get_or row (first + slot_at g c h s) 0)))) (sym k)
-      ∙ fun_ext (rest_stays g first row c h s 0 (with_bit p value (get_or row (first + slot_at g c h s) 0)) there (omega arith) fit (bits_kept p value _ ∙ ap (λ x. get_or row x 0 / 4) (sym k)))
+  mark_rest p value = fun_ext (rest_stays g first row c h s 0 _ _ there (omega arith) fit (omega arith) (bits_kept p value _))
 
   pub byte_rest : (p : Part) (i value : ℕ) → i < part_size g p → besides g first (set row (first + slot_at g c h s + (part_start p + i)) value) ≡ besides g first row
   byte_rest p i value li =
-      fun_ext (rest_stays g first row c h s (part_start p + i) value there (part_inside g p i li) fit (let w = part_after p i in grind (arith, nat_tests)))
+      fun_ext (rest_stays g first row c h s (part_start p + i) _ value there (part_inside g p i li) fit refl (let w = part_after p i in grind (arith, nat_tests)))
 
 module _ (st : State) (row : List ℕ) where
   -- a write leaves the row's length, and so the shape, alone
@@ -139,7 +113,7 @@ module _ (st : State) (row : List ℕ) where
     -- the place stands in the row
     module _ (small : length row < 2 ^ 64) (at_0 : u ≡ 0) (there : is_place (shape_in st.layout (length row)) (standing st (length row)) h s ≡ true) where
       pub stands : Standing st row u h s (st.layout.first + slot_at (shape_in st.layout (length row)) (standing st (length row)) h s)
-      unfolding unit_of
+      unfolding unit_of drive changed
       stands =
           let g : Shape = shape_in st.layout (length row) in
           let c : ℕ = standing st (length row) in
@@ -148,12 +122,12 @@ module _ (st : State) (row : List ℕ) where
           let d : Drive = unit_of st row in
           record {
             room = omega (arith, inside_row g (lines_of st) c first row h s there fit, small);
-            mark = λ p. ap (λ d. mark_here d p h s) (here d u at_0) ∙ mark_shows g (lines_of st) c first row h s there fit p;
-            byte = λ p i l. ap (λ d. byte_here d p h s i) (here d u at_0) ∙ byte_shows g (lines_of st) c first row h s there fit p i l;
-            no_byte = λ p i l. ap (λ d. byte_here d p h s i) (here d u at_0) ∙ no_byte_shows g (lines_of st) c first row h s there fit p i l;
-            set_mark = λ p value. ap (λ d. d ∷ []) (written _ _ ∙ mark_set g (lines_of st) c first row h s there fit p value) ∙ sym (changed_here d u (with_mark p h s value) at_0);
+            mark = λ p. rw at_0 (mark_shows g (lines_of st) c first row h s there fit p);
+            byte = λ p i l. rw at_0 (byte_shows g (lines_of st) c first row h s there fit p i l);
+            no_byte = λ p i l. rw at_0 (no_byte_shows g (lines_of st) c first row h s there fit p i l);
+            set_mark = λ p value. rw at_0 (ap (λ d. d ∷ []) (written _ _ ∙ mark_set g (lines_of st) c first row h s there fit p value));
             set_mark_rest = λ p value. rest_written _ _ ∙ ap (memory (length row) first) (mark_rest g (lines_of st) c first row h s there fit p value);
-            set_byte = λ p i value l. ap (λ d. d ∷ []) (written _ _ ∙ byte_set g (lines_of st) c first row h s there fit p i value l) ∙ sym (changed_here d u (with_byte p h s i value) at_0);
+            set_byte = λ p i value l. rw at_0 (ap (λ d. d ∷ []) (written _ _ ∙ byte_set g (lines_of st) c first row h s there fit p i value l));
             set_byte_rest = λ p i value l. rest_written _ _ ∙ ap (memory (length row) first) (byte_rest g (lines_of st) c first row h s there fit p i value l);
             no_set_byte = λ p i value l. changes_none d u (with_byte p h s i value) (λ e. no_byte_changes p h s i value d (past g (lines_of st) c first row h s there fit p i l));
           }
@@ -165,29 +139,24 @@ standing_next Inward cylinders n = grind (arith, nat_tests)
 standing_next Outward cylinders n = omega arith
 
 pub heads_moved : (direction : Direction) (st : State) (row : List ℕ) (u : ℕ) → u ≡ 0 → alone (record st { cylinder = next_cylinder direction (shape_in st.layout (length row)).cylinders (standing st (length row)) }) row ≡ changed (alone st row) u (pulsed direction)
-unfolding unit_of with_cylinder
+unfolding unit_of with_cylinder changed
 heads_moved direction st row u e =
     let g : Shape = shape_in st.layout (length row) in
-    ap (λ n. over g (lines_of st) n st.layout.first row ∷ []) (standing_next direction g.cylinders st.cylinder)
-    ∙ sym (changed_here (unit_of st row) u (pulsed direction) e)
+    rw e (ap (λ n. over g (lines_of st) n st.layout.first row ∷ []) (standing_next direction g.cylinders st.cylinder))
 
 with_lines : (Line → Bool) → State → List ℕ → Drive
 with_lines lines st row = over (shape_in st.layout (length row)) lines (standing st (length row)) st.layout.first row
 
 -- the lines of a unit that is not held
-one_line : (line : Line) (value : Bool) (st : State) (l : Line) → lines_of (with_state_line line value st) l ≡ cond (same_line line l && not (same_line line Protect && false)) value (lines_of st l)
-one_line Ready value st l = grind rules
-one_line Protect value st l = grind rules
-one_line Fault value st l = grind rules
-
 unit_line : (line : Line) (value : Bool) (st : State) (row : List ℕ) → unit_of (with_state_line line value st) row ≡ with_line line value (unit_of st row)
 unfolding unit_of with_line with_lines
-unit_line Ready value st row = ap (λ ls. with_lines ls st row) (fun_ext (one_line Ready value st))
-unit_line Protect value st row = ap (λ ls. with_lines ls st row) (fun_ext (one_line Protect value st))
-unit_line Fault value st row = ap (λ ls. with_lines ls st row) (fun_ext (one_line Fault value st))
+unit_line Ready value st row = ap (λ ls. with_lines ls st row) (fun_ext (λ l. grind rules))
+unit_line Protect value st row = ap (λ ls. with_lines ls st row) (fun_ext (λ l. grind rules))
+unit_line Fault value st row = ap (λ ls. with_lines ls st row) (fun_ext (λ l. grind rules))
 
 pub line_set : (line : Line) (value : Bool) (st st' : State) (row : List ℕ) (u : ℕ) → st' ≡ with_state_line line value st → u ≡ 0 → alone st' row ≡ changed (alone st row) u (with_line line value)
-line_set line value st st' row u e z = rw e (ap (λ d. d ∷ []) (unit_line line value st row) ∙ sym (changed_here (unit_of st row) u (with_line line value) z))
+unfolding changed
+line_set line value st st' row u e z = rw (e, z) (ap (λ d. d ∷ []) (unit_line line value st row))
 
 -- ---- the search for a slot
 
@@ -215,16 +184,16 @@ changed_elsewhere d u f n = changes_none d u f (λ e. absurd (n e))
 -- what a unit alone shows
 module _ (st : State) (row : List ℕ) (u : ℕ) (e : u ≡ 0) where
   pub here_shape : (drive (alone st row) u).shape ≡ shape_in st.layout (length row)
-  unfolding unit_of
-  here_shape = rw here
+  unfolding unit_of drive
+  here_shape = rw e
 
   pub here_cylinder : (drive (alone st row) u).cylinder ≡ standing st (length row)
-  unfolding unit_of
-  here_cylinder = rw here
+  unfolding unit_of drive
+  here_cylinder = rw e
 
   pub here_line : (line : Line) → (drive (alone st row) u).lines line ≡ lines_of st line
-  unfolding unit_of
-  here_line line = rw here
+  unfolding unit_of drive
+  here_line line = rw e
 
 -- what each method of a unit answers and alters
 pub ruleset alone_steps = (nat_tests, here_shape, here_cylinder, here_line, elsewhere, line_set, heads_moved, changed_elsewhere)

@@ -5,7 +5,7 @@ use Rattle.std.proofs.lemmas.Bool.{cases_eq}
 use Rattle.std.proofs.lemmas.Bool.Decides.{nat_tests}
 use Rattle.drives.specs.declared.parts.Part.{Part}
 use Rattle.drives.specs.declared.parts.Part.TheVariants.{Id, Data}
-use Rattle.drives.specs.Drives.{Shape, part_size}
+use Rattle.drives.specs.Drives.{Shape, is_place, part_size}
 use Rattle.drives.specs.Changes.{same_part}
 use Rattle.units.specs.Rows.{slot_size, slot_at, area, part_start, mark_bit, with_bit}
 
@@ -26,10 +26,8 @@ slot_inside g c h s lc lh ls =
     let slot : (c * g.heads + h) * g.slots + s < g.cylinders * g.heads * g.slots = omega (arith, mul-add-lt (c * g.heads + h) g.slots s (g.cylinders * g.heads) (omega arith) ls) in
     omega (arith, row_fits _ (g.length + 11) _ (g.length + 11) slot (omega arith))
 
--- where a byte of a slot lies in its slot
-pub slot_offset : (g : Shape) (c h s r : ℕ) → r < g.length + 11 → (slot_at g c h s + r) % slot_size g ≡ r
-unfolding slot_at
-slot_offset g c h s r l = mod-mul-add ((c * g.heads + h) * g.slots + s) (g.length + 11) r l
+pub place_inside : (g : Shape) (c h s : ℕ) → is_place g c h s ≡ true → slot_at g c h s + (g.length + 11) ≤ area g
+place_inside g c h s there = slot_inside g c h s (grind (arith, nat_tests)) (grind (arith, nat_tests)) (grind (arith, nat_tests))
 
 -- a byte after a write
 pub get_d_set : (row : List ℕ) (k j v : ℕ) → k < length row → ((j ≡ k) × (get_or (set row k v) j 0 ≡ v)) ⊎ ((j ≡ k → ⊥) × (get_or (set row k v) j 0 ≡ get_or row j 0))
