@@ -17,7 +17,7 @@ use Rattle.units.specs.declared.unit.State.{State}
 use Rattle.units.specs.Rows.{slot_at, area, part_start, mark_bit, with_bit, marks_in, bytes_in, besides}
 use Rattle.units.specs.Units.{fits, said, shape_in, standing, lines_of, with_state_line, unit_of, alone, rest_of}
 use Rattle.units.specs.Found.{Missing, Standing}
-use Rattle.units.proofs.Slots.{place_inside, bits_kept, part_inside, part_after}
+use Rattle.units.proofs.Slots.{place_inside, bits_kept, part_inside}
 use Rattle.units.proofs.Writes.{marks_of, bytes_stay, marks_stay, bytes_of, rest_stays}
 
 -- a unit that has a place fits its row
@@ -53,20 +53,11 @@ module _ (g : Shape) (lines : Line → Bool) (c first : ℕ) (row : List ℕ) (h
   inside_row : first + slot_at g c h s + (g.length + 11) ≤ length row
   inside_row = omega (arith, place_inside g c h s there)
 
-  mark_shows : (p : Part) → marks_in g first row p c h s ≡ mark_bit p (get_or row (first + slot_at g c h s) 0)
-  unfolding marks_in
-  mark_shows p = cond-true _ _ _ there
-
-  byte_shows : (p : Part) (i : ℕ) → i < part_size g p → bytes_in g first row p c h s i ≡ get_or row (first + slot_at g c h s + (part_start p + i)) 0
-  unfolding bytes_in
-  byte_shows p i l = cond-true _ _ _ (let t = there in let e : is_byte g p c h s i ≡ true = grind (arith, nat_tests) in e)
+  exists : (p : Part) (i : ℕ) → i < part_size g p → is_byte g p c h s i ≡ true
+  exists p i l = let t = there in grind (arith, nat_tests)
 
   past : (p : Part) (i : ℕ) → part_size g p ≤ i → is_byte g p c h s i ≡ false
   past p i l = let t = there in grind (arith, nat_tests)
-
-  no_byte_shows : (p : Part) (i : ℕ) → part_size g p ≤ i → bytes_in g first row p c h s i ≡ 0
-  unfolding bytes_in
-  no_byte_shows p i l = cond-false _ _ _ (past p i l)
 
   pub mark_set : (p : Part) (value : Bool) → over g lines c first (set row (first + slot_at g c h s) (with_bit p value (get_or row (first + slot_at g c h s) 0))) ≡ with_mark p h s value (over g lines c first row)
   unfolding with_mark
@@ -89,7 +80,7 @@ module _ (g : Shape) (lines : Line → Bool) (c first : ℕ) (row : List ℕ) (h
 
   pub byte_rest : (p : Part) (i value : ℕ) → i < part_size g p → besides g first (set row (first + slot_at g c h s + (part_start p + i)) value) ≡ besides g first row
   byte_rest p i value li =
-      fun_ext (rest_stays g first row c h s (part_start p + i) _ value there (part_inside g p i li) fit refl (let w = part_after p i in grind (arith, nat_tests)))
+      fun_ext (rest_stays g first row c h s (part_start p + i) _ value there (part_inside g p i li).0 fit refl (let w = part_inside g p i li in grind (arith, nat_tests)))
 
 module _ (st : State) (row : List ℕ) where
   -- a write leaves the row's length, and so the shape, alone
@@ -113,7 +104,7 @@ module _ (st : State) (row : List ℕ) where
     -- the place stands in the row
     module _ (small : length row < 2 ^ 64) (at_0 : u ≡ 0) (there : is_place (shape_in st.layout (length row)) (standing st (length row)) h s ≡ true) where
       pub stands : Standing st row u h s (st.layout.first + slot_at (shape_in st.layout (length row)) (standing st (length row)) h s)
-      unfolding unit_of drive changed
+      unfolding unit_of drive changed marks_in bytes_in
       stands =
           let g : Shape = shape_in st.layout (length row) in
           let c : ℕ = standing st (length row) in
@@ -122,9 +113,9 @@ module _ (st : State) (row : List ℕ) where
           let d : Drive = unit_of st row in
           record {
             room = omega (arith, inside_row g (lines_of st) c first row h s there fit, small);
-            mark = λ p. rw at_0 (mark_shows g (lines_of st) c first row h s there fit p);
-            byte = λ p i l. rw at_0 (byte_shows g (lines_of st) c first row h s there fit p i l);
-            no_byte = λ p i l. rw at_0 (no_byte_shows g (lines_of st) c first row h s there fit p i l);
+            mark = λ p. rw at_0 (cond-true _ _ _ there);
+            byte = λ p i l. rw at_0 (cond-true _ _ _ (exists g (lines_of st) c first row h s there fit p i l));
+            no_byte = λ p i l. rw at_0 (cond-false _ _ _ (past g (lines_of st) c first row h s there fit p i l));
             set_mark = λ p value. rw at_0 (ap (λ d. d ∷ []) (written _ _ ∙ mark_set g (lines_of st) c first row h s there fit p value));
             set_mark_rest = λ p value. rest_written _ _ ∙ ap (memory (length row) first) (mark_rest g (lines_of st) c first row h s there fit p value);
             set_byte = λ p i value l. rw at_0 (ap (λ d. d ∷ []) (written _ _ ∙ byte_set g (lines_of st) c first row h s there fit p i value l));
@@ -144,15 +135,12 @@ heads_moved direction st row u e =
     let g : Shape = shape_in st.layout (length row) in
     rw e (ap (λ n. over g (lines_of st) n st.layout.first row ∷ []) (standing_next direction g.cylinders st.cylinder))
 
-with_lines : (Line → Bool) → State → List ℕ → Drive
-with_lines lines st row = over (shape_in st.layout (length row)) lines (standing st (length row)) st.layout.first row
-
 -- the lines of a unit that is not held
 unit_line : (line : Line) (value : Bool) (st : State) (row : List ℕ) → unit_of (with_state_line line value st) row ≡ with_line line value (unit_of st row)
-unfolding unit_of with_line with_lines
-unit_line Ready value st row = ap (λ ls. with_lines ls st row) (fun_ext (λ l. grind rules))
-unit_line Protect value st row = ap (λ ls. with_lines ls st row) (fun_ext (λ l. grind rules))
-unit_line Fault value st row = ap (λ ls. with_lines ls st row) (fun_ext (λ l. grind rules))
+unfolding unit_of with_line
+unit_line Ready value st row = ap (λ ls. record (unit_of st row) { lines = ls }) (fun_ext (λ l. grind rules))
+unit_line Protect value st row = ap (λ ls. record (unit_of st row) { lines = ls }) (fun_ext (λ l. grind rules))
+unit_line Fault value st row = ap (λ ls. record (unit_of st row) { lines = ls }) (fun_ext (λ l. grind rules))
 
 pub line_set : (line : Line) (value : Bool) (st st' : State) (row : List ℕ) (u : ℕ) → st' ≡ with_state_line line value st → u ≡ 0 → alone st' row ≡ changed (alone st row) u (with_line line value)
 unfolding changed

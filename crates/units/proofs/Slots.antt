@@ -46,13 +46,9 @@ bits_kept Id value byte = grind arith
 bits_kept Data value byte = grind arith
 
 -- a part's bytes lie in its slot, after the byte of marks, and apart from the other part's
-pub part_inside : (g : Shape) (p : Part) (i : ℕ) → i < part_size g p → part_start p + i < g.length + 11
-part_inside g Id i l = omega arith
-part_inside g Data i l = omega arith
-
-pub part_after : (p : Part) (i : ℕ) → 0 < part_start p + i
-part_after Id i = omega arith
-part_after Data i = omega arith
+pub part_inside : (g : Shape) (p : Part) (i : ℕ) → i < part_size g p → (part_start p + i < g.length + 11) × (0 < part_start p + i)
+part_inside g Id i l = (omega arith, omega arith)
+part_inside g Data i l = (omega arith, omega arith)
 
 pub part_apart : (g : Shape) (p p' : Part) (i i' : ℕ) → i < part_size g p → i' < part_size g p' → part_start p + i ≡ part_start p' + i' → (same_part p p' ≡ true) × (i ≡ i')
 part_apart g Id Id i i' l l' e = (refl, omega arith)

@@ -6,7 +6,7 @@ use Rattle.drives.specs.declared.parts.Part.{Part}
 use Rattle.drives.specs.Drives.{Shape, is_place, is_byte, part_size}
 use Rattle.drives.specs.Changes.{same_part, same_place}
 use Rattle.units.specs.Rows.{slot_size, slot_at, area, part_start, mark_bit, with_bit, marks_in, bytes_in, besides}
-use Rattle.units.proofs.Slots.{same_slot, place_inside, bit_shows, get_d_set, part_inside, part_after, part_apart, same_part_is}
+use Rattle.units.proofs.Slots.{same_slot, place_inside, bit_shows, get_d_set, part_inside, part_apart, same_part_is}
 
 module _ (g : Shape) (first : ℕ) (row : List ℕ) (c h s : ℕ) (there : is_place g c h s ≡ true) where
   -- a mark written in its byte
@@ -23,7 +23,7 @@ module _ (g : Shape) (first : ℕ) (row : List ℕ) (c h s : ℕ) (there : is_pl
   bytes_stay v l p' c' h' s' i' =
       let t = there in
       let y = same_slot g c h s c' h' s' 0 (part_start p' + i') in
-      grind (arith, nat_tests, get_d_set, part_inside, part_after)
+      grind (arith, nat_tests, get_d_set, part_inside)
 
   -- a byte of a part written
   module _ (v : ℕ) (p : Part) (i : ℕ) (li : i < part_size g p) where
@@ -32,7 +32,7 @@ module _ (g : Shape) (first : ℕ) (row : List ℕ) (c h s : ℕ) (there : is_pl
     marks_stay l p' c' h' s' =
         let t = there in
         let y = same_slot g c h s c' h' s' (part_start p + i) 0 in
-        grind (arith, nat_tests, get_d_set, part_inside, part_after)
+        grind (arith, nat_tests, get_d_set, part_inside)
 
     pub bytes_of : first + slot_at g c h s + (part_start p + i) < length row → (p' : Part) (c' h' s' i' : ℕ) → bytes_in g first (set row (first + slot_at g c h s + (part_start p + i)) v) p' c' h' s' i' ≡ cond (is_byte g p c h s i && (same_part p p' && (same_place c h s c' h' s' && eqb i i'))) v (bytes_in g first row p' c' h' s' i')
     unfolding bytes_in
