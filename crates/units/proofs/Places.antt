@@ -48,6 +48,13 @@ no_byte_changes p h s i value d e = rw e
 abbrev pub over : Shape → (Line → Bool) → ℕ → ℕ → List ℕ → Drive
 over g lines n first row = record { shape = g; lines = lines; held = false; cylinder = n; marks = marks_in g first row; bytes = bytes_in g first row }
 
+-- two units are the same if their marks and bytes are, and all else
+same_parts : (d : Drive) {m : Part → ℕ → ℕ → ℕ → Bool} {b : Part → ℕ → ℕ → ℕ → ℕ → ℕ} → ((p : Part) (c h s : ℕ) → d.marks p c h s ≡ m p c h s) → ((p : Part) (c h s i : ℕ) → d.bytes p c h s i ≡ b p c h s i) → d ≡ record d { marks = m; bytes = b }
+same_parts d em eb =
+    ap₂ (λ m b. record d { marks = m; bytes = b })
+    (fun_ext (λ p. fun_ext (λ c. fun_ext (λ h. fun_ext (λ s. em p c h s)))))
+    (fun_ext (λ p. fun_ext (λ c. fun_ext (λ h. fun_ext (λ s. fun_ext (λ i. eb p c h s i))))))
+
 -- a place that stands in the row: what shows there, and what a write means
 module _ (g : Shape) (lines : Line → Bool) (c first : ℕ) (row : List ℕ) (h s : ℕ) (there : is_place g c h s ≡ true) (fit : first + area g ≤ length row) where
   inside_row : first + slot_at g c h s + (g.length + 11) ≤ length row
@@ -63,17 +70,13 @@ module _ (g : Shape) (lines : Line → Bool) (c first : ℕ) (row : List ℕ) (h
   unfolding with_mark
   mark_set p value =
       let l : first + slot_at g c h s < length row = omega (arith, inside_row) in
-      ap₂ (λ m b. record { shape = g; lines = lines; held = false; cylinder = c; marks = m; bytes = b })
-      (fun_ext (λ p'. fun_ext (λ c'. fun_ext (λ h'. fun_ext (λ s'. marks_of g first row c h s there p value l p' c' h' s')))))
-      (fun_ext (λ p'. fun_ext (λ c'. fun_ext (λ h'. fun_ext (λ s'. fun_ext (λ i'. bytes_stay g first row c h s there _ l p' c' h' s' i'))))))
+      same_parts _ (marks_of g first row c h s there p value l) (bytes_stay g first row c h s there _ l)
 
   pub byte_set : (p : Part) (i value : ℕ) → i < part_size g p → over g lines c first (set row (first + slot_at g c h s + (part_start p + i)) value) ≡ with_byte p h s i value (over g lines c first row)
   unfolding with_byte
   byte_set p i value li =
       let l : first + slot_at g c h s + (part_start p + i) < length row = omega (arith, inside_row, part_inside g p i li) in
-      ap₂ (λ m b. record { shape = g; lines = lines; held = false; cylinder = c; marks = m; bytes = b })
-      (fun_ext (λ p'. fun_ext (λ c'. fun_ext (λ h'. fun_ext (λ s'. marks_stay g first row c h s there value p i li l p' c' h' s')))))
-      (fun_ext (λ p'. fun_ext (λ c'. fun_ext (λ h'. fun_ext (λ s'. fun_ext (λ i'. bytes_of g first row c h s there value p i li l p' c' h' s' i'))))))
+      same_parts _ (marks_stay g first row c h s there value p i li l) (bytes_of g first row c h s there value p i li l)
 
   pub mark_rest : (p : Part) (value : Bool) → besides g first (set row (first + slot_at g c h s) (with_bit p value (get_or row (first + slot_at g c h s) 0))) ≡ besides g first row
   mark_rest p value = fun_ext (rest_stays g first row c h s 0 _ _ there (omega arith) fit (omega arith) (bits_kept p value _))

@@ -29,11 +29,6 @@ slot_inside g c h s lc lh ls =
 pub place_inside : (g : Shape) (c h s : ℕ) → is_place g c h s ≡ true → slot_at g c h s + (g.length + 11) ≤ area g
 place_inside g c h s there = slot_inside g c h s (grind (arith, nat_tests)) (grind (arith, nat_tests)) (grind (arith, nat_tests))
 
--- a byte after a write
-pub get_d_set : (row : List ℕ) (k j v : ℕ) → k < length row → ((j ≡ k) × (get_or (set row k v) j 0 ≡ v)) ⊎ ((j ≡ k → ⊥) × (get_or (set row k v) j 0 ≡ get_or row j 0))
-get_d_set row k j v l =
-    ⊎_elim (λ e. inl (e, rw (e, get_or-set_same))) (λ n. let ne : j ≢ k = n in inr (n, rw get_or-set_other)) (cases_eq j k)
-
 -- one mark set: it shows, the other mark and the other bits stay
 pub bit_shows : (p p' : Part) (value : Bool) (byte : ℕ) → mark_bit p' (with_bit p value byte) ≡ cond (same_part p p') value (mark_bit p' byte)
 bit_shows Id Id value byte = grind (arith, nat_tests)
