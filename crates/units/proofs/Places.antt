@@ -134,9 +134,7 @@ standing_next Outward cylinders n = omega arith
 
 pub heads_moved : (direction : Direction) (st : State) (row : List ℕ) (u : ℕ) → u ≡ 0 → alone (record st { cylinder = next_cylinder direction (shape_in st.layout (length row)).cylinders (standing st (length row)) }) row ≡ changed (alone st row) u (pulsed direction)
 unfolding unit_of with_cylinder changed
-heads_moved direction st row u e =
-    let g : Shape = shape_in st.layout (length row) in
-    rw e (ap (λ n. over g (lines_of st) n st.layout.first row ∷ []) (standing_next direction g.cylinders st.cylinder))
+heads_moved direction st row u e = rw e (ap (λ n. record (unit_of st row) { cylinder = n } ∷ []) (standing_next direction _ st.cylinder))
 
 -- the lines of a unit that is not held
 unit_line : (line : Line) (value : Bool) (st : State) (row : List ℕ) → unit_of (with_state_line line value st) row ≡ with_line line value (unit_of st row)

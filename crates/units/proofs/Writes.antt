@@ -40,11 +40,9 @@ module _ (g : Shape) (first : ℕ) (row : List ℕ) (c h s : ℕ) (there : is_pl
     bytes_of l p' c' h' s' i' =
         let t = there in
         let y = same_slot g c h s c' h' s' (part_start p + i) (part_start p' + i') in
-        let z = part_inside g p i li in
-        let w = part_inside g p' i' in
         let a = part_apart g p p' i i' li in
         let b = same_part_is p p' in
-        grind (arith, nat_tests, get_or-set_at, get_or-set_other)
+        grind (arith, nat_tests, get_or-set_at, get_or-set_other, part_inside)
 
 -- the row besides: a byte of marks keeps its other bits, and no other byte of a slot counts
 module _ (g : Shape) (first : ℕ) (row : List ℕ) (c h s r at v : ℕ) (there : is_place g c h s ≡ true) (lr : r < g.length + 11) (inside : first + area g ≤ length row) (e : at ≡ first + slot_at g c h s + r) where
