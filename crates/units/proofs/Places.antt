@@ -1,5 +1,5 @@
 -- Places of a unit over a row of bytes.
-use Rattle.std.proofs.Common.{◌≡◌, ℕ, zero, suc, ◌+◌, ◌-◌, ◌*◌, ◌/◌, ◌^◌, ◌<◌, ◌≤◌, min, Bool, true, false, cond, not, ◌&&◌, List, [], ◌∷◌, length, get_or, set, sym, refl, ap, ◌∙◌, subst, ap₂, arith, rules, length-set}
+use Rattle.std.proofs.Common.{◌≡◌, ℕ, zero, suc, ◌+◌, ◌-◌, ◌*◌, ◌^◌, ◌<◌, ◌≤◌, min, Bool, true, false, List, [], ◌∷◌, length, get_or, set, sym, refl, ap, ◌∙◌, ap₂, arith, rules, length-set}
 use mathlib.Core.Path.{fun_ext}
 use Rattle.std.proofs.lemmas.Bool.Decides.{nat_tests}
 use Rattle.std.proofs.lemmas.Bool.{cond-true, cond-false, and_left}
@@ -9,13 +9,13 @@ use Rattle.drives.specs.declared.parts.Line.TheVariants.{Ready, Protect, Fault}
 use Rattle.drives.specs.declared.parts.Direction.{Direction}
 use Rattle.drives.specs.declared.parts.Direction.TheVariants.{Inward, Outward}
 use Rattle.drives.specs.Bounds.{bounded}
-use Rattle.drives.specs.Drives.{Drive, Shape, no_shape, drive, absent, is_place, is_byte, part_size, mark_here, byte_here}
-use Rattle.drives.specs.Changes.{changed, next_cylinder, with_cylinder, pulsed, same_line, with_line, with_mark, with_byte, same_part, same_place}
+use Rattle.drives.specs.Drives.{Drive, Shape, drive, absent, is_place, is_byte, part_size, mark_here, byte_here}
+use Rattle.drives.specs.Changes.{changed, next_cylinder, with_cylinder, pulsed, with_line, with_mark, with_byte}
 use Rattle.drives.specs.Sound.{memory}
 use Rattle.units.specs.declared.layout.Layout.{Layout}
 use Rattle.units.specs.declared.unit.State.{State}
-use Rattle.units.specs.Rows.{slot_at, area, part_start, mark_bit, with_bit, marks_in, bytes_in, besides}
-use Rattle.units.specs.Units.{fits, said, shape_in, standing, lines_of, with_state_line, unit_of, alone, rest_of}
+use Rattle.units.specs.Rows.{slot_at, area, part_start, with_bit, marks_in, bytes_in, besides}
+use Rattle.units.specs.Units.{shape_in, standing, lines_of, with_state_line, unit_of, alone, rest_of}
 use Rattle.units.specs.Found.{Missing, Standing}
 use Rattle.units.proofs.Slots.{place_inside, bits_kept, part_inside}
 use Rattle.units.proofs.Writes.{marks_of, bytes_stay, marks_stay, bytes_of, rest_stays}

@@ -1,13 +1,12 @@
 -- Slots lie apart from each other, and inside their area.
-use Rattle.std.proofs.Common.{◌≡◌, ℕ, ◌+◌, ◌*◌, ◌/◌, ◌%◌, ◌<◌, ◌≤◌, Bool, true, false, cond, eqb, ◌≢◌, ◌⊎◌, List, length, get_or, set, sym, refl, ap, ◌∙◌, inl, inr, ⊎_elim, add-mul, one-mul, arith, get_or-set_other, get_or-set_same}
-use Rattle.std.proofs.lemmas.Nat.{mod-mul-add, mul-add-lt, row_fits, same_from_place}
-use Rattle.std.proofs.lemmas.Bool.{cases_eq}
+use Rattle.std.proofs.Common.{◌≡◌, ℕ, ◌+◌, ◌*◌, ◌/◌, ◌<◌, ◌≤◌, Bool, true, cond, refl, arith}
+use Rattle.std.proofs.lemmas.Nat.{mul-add-lt, row_fits, same_from_place}
 use Rattle.std.proofs.lemmas.Bool.Decides.{nat_tests}
 use Rattle.drives.specs.declared.parts.Part.{Part}
 use Rattle.drives.specs.declared.parts.Part.TheVariants.{Id, Data}
 use Rattle.drives.specs.Drives.{Shape, is_place, part_size}
 use Rattle.drives.specs.Changes.{same_part}
-use Rattle.units.specs.Rows.{slot_size, slot_at, area, part_start, mark_bit, with_bit}
+use Rattle.units.specs.Rows.{slot_at, area, part_start, mark_bit, with_bit}
 
 -- two bytes of slots that are one byte are the same byte of the same slot
 pub same_slot : (g : Shape) (c h s c' h' s' r q : ℕ) → h < g.heads → s < g.slots → h' < g.heads → s' < g.slots → r < g.length + 11 → q < g.length + 11 → slot_at g c h s + r ≡ slot_at g c' h' s' + q → (c ≡ c') × (h ≡ h') × (s ≡ s') × (r ≡ q)

@@ -6,7 +6,7 @@ use Rattle.std.proofs.lemmas.Bool.Decides.{nat_tests}
 use Rattle.drives.specs.declared.parts.Part.{Part}
 use Rattle.drives.specs.Drives.{Shape, is_place, is_byte, part_size}
 use Rattle.drives.specs.Changes.{same_part, same_place}
-use Rattle.units.specs.Rows.{slot_size, slot_at, area, part_start, mark_bit, with_bit, marks_in, bytes_in, besides}
+use Rattle.units.specs.Rows.{slot_size, slot_at, area, part_start, with_bit, marks_in, bytes_in, besides}
 use Rattle.units.proofs.Slots.{same_slot, place_inside, bit_shows, part_inside, part_apart, same_part_is}
 
 module _ (g : Shape) (first : ℕ) (row : List ℕ) (c h s : ℕ) (there : is_place g c h s ≡ true) where
