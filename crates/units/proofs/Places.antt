@@ -170,19 +170,10 @@ elsewhere d u n = shows_none d u (λ x. x) (λ e. absurd (n e))
 pub changed_elsewhere : (d : Drive) (u : ℕ) (f : Drive → Drive) → (u ≡ 0 → ⊥) → d ∷ [] ≡ changed (d ∷ []) u f
 changed_elsewhere d u f n = changes_none d u f (λ e. absurd (n e))
 
--- what a unit alone shows
-module _ (st : State) (row : List ℕ) (u : ℕ) (e : u ≡ 0) where
-  pub here_shape : (drive (alone st row) u).shape ≡ shape_in st.layout (length row)
-  unfolding unit_of drive
-  here_shape = rw e
-
-  pub here_cylinder : (drive (alone st row) u).cylinder ≡ standing st (length row)
-  unfolding unit_of drive
-  here_cylinder = rw e
-
-  pub here_line : (line : Line) → (drive (alone st row) u).lines line ≡ lines_of st line
-  unfolding unit_of drive
-  here_line line = rw e
+-- the unit alone
+pub here : (st : State) (row : List ℕ) (u : ℕ) → u ≡ 0 → drive (alone st row) u ≡ over (shape_in st.layout (length row)) (lines_of st) (standing st (length row)) st.layout.first row
+unfolding unit_of drive
+here st row u e = rw e
 
 -- what each method of a unit answers and alters
-pub ruleset alone_steps = (nat_tests, here_shape, here_cylinder, here_line, elsewhere, line_set, heads_moved, changed_elsewhere)
+pub ruleset alone_steps = (nat_tests, here, elsewhere, line_set, heads_moved, changed_elsewhere)
