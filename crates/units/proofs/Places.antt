@@ -61,10 +61,10 @@ module _ (g : Shape) (lines : Line → Bool) (c first : ℕ) (row : List ℕ) (h
   inside_row = omega (arith, place_inside g c h s there)
 
   exists : (p : Part) (i : ℕ) → i < part_size g p → is_byte g p c h s i ≡ true
-  exists p i l = let t = there in grind (arith, nat_tests)
+  exists p i l = grind (arith, nat_tests, there)
 
   past : (p : Part) (i : ℕ) → part_size g p ≤ i → is_byte g p c h s i ≡ false
-  past p i l = let t = there in grind (arith, nat_tests)
+  past p i l = grind (arith, nat_tests, there)
 
   pub mark_set : (p : Part) (value : Bool) → over g lines c first (set row (first + slot_at g c h s) (with_bit p value (get_or row (first + slot_at g c h s) 0))) ≡ with_mark p h s value (over g lines c first row)
   unfolding with_mark
