@@ -83,7 +83,7 @@ module _ (g : Shape) (lines : Line → Bool) (c first : ℕ) (row : List ℕ) (h
 
   pub byte_rest : (p : Part) (i value : ℕ) → i < part_size g p → besides g first (set row (first + slot_at g c h s + (part_start p + i)) value) ≡ besides g first row
   byte_rest p i value li =
-      fun_ext (rest_stays g first row c h s (part_start p + i) _ value there (part_inside g p i li).0 fit refl (let w = part_inside g p i li in grind (arith, nat_tests)))
+      fun_ext (rest_stays g first row c h s (part_start p + i) _ value there (part_inside g p i li).0 fit refl (grind (arith, nat_tests, part_inside g p i li)))
 
 module _ (st : State) (row : List ℕ) where
   -- a write leaves the row's length, and so the shape, alone

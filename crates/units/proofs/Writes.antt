@@ -14,31 +14,24 @@ module _ (g : Shape) (first : ℕ) (row : List ℕ) (c h s : ℕ) (there : is_pl
   pub marks_of : (p : Part) (value : Bool) → first + slot_at g c h s < length row → (p' : Part) (c' h' s' : ℕ) → marks_in g first (set row (first + slot_at g c h s) (with_bit p value (get_or row (first + slot_at g c h s) 0))) p' c' h' s' ≡ cond (is_place g c h s && (same_part p p' && same_place c h s c' h' s')) value (marks_in g first row p' c' h' s')
   unfolding marks_in
   marks_of p value l p' c' h' s' =
-      let y = same_slot g c h s c' h' s' 0 0 in
-      let z = bit_shows p p' value (get_or row (first + slot_at g c h s) 0) in
-      grind (arith, nat_tests, there, get_or-set_at, get_or-set_other)
+      grind (arith, nat_tests, there, same_slot g c h s c' h' s' 0 0, bit_shows p p' value (get_or row (first + slot_at g c h s) 0), get_or-set_at, get_or-set_other)
 
   pub bytes_stay : (v : ℕ) → first + slot_at g c h s < length row → (p' : Part) (c' h' s' i' : ℕ) → bytes_in g first (set row (first + slot_at g c h s) v) p' c' h' s' i' ≡ bytes_in g first row p' c' h' s' i'
   unfolding bytes_in
   bytes_stay v l p' c' h' s' i' =
-      let y = same_slot g c h s c' h' s' 0 (part_start p' + i') in
-      grind (arith, nat_tests, there, get_or-set_at, get_or-set_other, part_inside)
+      grind (arith, nat_tests, there, same_slot g c h s c' h' s' 0 (part_start p' + i'), get_or-set_at, get_or-set_other, part_inside)
 
   -- a byte of a part written
   module _ (v : ℕ) (p : Part) (i : ℕ) (li : i < part_size g p) where
     pub marks_stay : first + slot_at g c h s + (part_start p + i) < length row → (p' : Part) (c' h' s' : ℕ) → marks_in g first (set row (first + slot_at g c h s + (part_start p + i)) v) p' c' h' s' ≡ marks_in g first row p' c' h' s'
     unfolding marks_in
     marks_stay l p' c' h' s' =
-        let y = same_slot g c h s c' h' s' (part_start p + i) 0 in
-        grind (arith, nat_tests, there, get_or-set_at, get_or-set_other, part_inside)
+        grind (arith, nat_tests, there, same_slot g c h s c' h' s' (part_start p + i) 0, get_or-set_at, get_or-set_other, part_inside)
 
     pub bytes_of : first + slot_at g c h s + (part_start p + i) < length row → (p' : Part) (c' h' s' i' : ℕ) → bytes_in g first (set row (first + slot_at g c h s + (part_start p + i)) v) p' c' h' s' i' ≡ cond (is_byte g p c h s i && (same_part p p' && (same_place c h s c' h' s' && eqb i i'))) v (bytes_in g first row p' c' h' s' i')
     unfolding bytes_in
     bytes_of l p' c' h' s' i' =
-        let y = same_slot g c h s c' h' s' (part_start p + i) (part_start p' + i') in
-        let a = part_apart g p p' i i' li in
-        let b = same_part_is p p' in
-        grind (arith, nat_tests, there, get_or-set_at, get_or-set_other, part_inside)
+        grind (arith, nat_tests, there, same_slot g c h s c' h' s' (part_start p + i) (part_start p' + i'), part_apart g p p' i i' li, same_part_is p p', get_or-set_at, get_or-set_other, part_inside)
 
 -- the row besides: a byte of marks keeps its other bits, and no other byte of a slot counts
 module _ (g : Shape) (first : ℕ) (row : List ℕ) (c h s r at v : ℕ) (there : is_place g c h s ≡ true) (lr : r < g.length + 11) (inside : first + area g ≤ length row) (e : at ≡ first + slot_at g c h s + r) where
