@@ -170,6 +170,7 @@ impl<M: Memory> Unit<M> {
     }
 }
 
+#[tactic(auto, using(crate::proofs::Places::alone_steps))]
 impl<M: Memory> DriveString for Unit<M> {
     ghost meaning = { λ k. alone k.state (M.Memory.contents k.memory) };
 
