@@ -3,10 +3,10 @@ use Rattle.std.proofs.Common.{◌≡◌, ℕ, zero, suc, ◌≤◌, true, List, 
 use Rattle.std.proofs.lemmas.List.{get_or_past}
 use Rattle.std.proofs.lemmas.Bool.{and_parts}
 use Rattle.std.proofs.lemmas.Bool.Decides.{nat_tests}
-use Rattle.drives.specs.declared.parts.Part.{Part}
 use Rattle.drives.specs.Drives.{Drive, drive, absent, is_place, mark_here, byte_here}
-use Rattle.drives.specs.Changes.{changed, with_cylinder, with_line, with_mark, with_byte, same_part}
+use Rattle.drives.specs.Changes.{changed, with_cylinder, with_line, with_mark, with_byte}
 use Rattle.drives.specs.Sound.{SoundDrive}
+use Rattle.units.proofs.Slots.{same_part_is}
 use Rattle.laws.specs.OfStrings.{step, line_to, mark_to, byte_to, made, WhatNeverChanges, OtherUnitsStay, HeldStaysProtected, StringsStaySound, MarksReadBack, BytesReadBack}
 
 -- ---- one unit of a string
@@ -46,9 +46,6 @@ unfolding changed drive
 others_stay ds u f v n = get_or-set_other ds u v _ absent n
 
 -- ---- sound units
-
-same_part_is : (p p' : Part) → same_part p p' ≡ true → p ≡ p'
-same_part_is p p' e = grind (arith, nat_tests)
 
 pub stays_sound : HeldStaysProtected
 unfolding with_cylinder with_line with_mark with_byte

@@ -5,7 +5,7 @@ use registers::refusal::Refusal;
 
 // A call of the port with the answer that it should give. What is refused gives the refusal's number.
 #[derive(Clone, Copy)]
-pub enum Step {
+pub(crate) enum Step {
     Command(u8),
     CommandRefused(u8, u8),
     Write(u8),
@@ -25,10 +25,7 @@ pub enum Step {
 const NOTHING_TO_READ: u8 = 7;
 
 fn is_refused<T: Drop>(answer: Result<T, Refusal>, number: u8) -> bool {
-    match answer {
-        Ok(_) => false,
-        Err(refusal) => refusal.number() == number,
-    }
+    answer.is_err_and(|refusal| refusal.number() == number)
 }
 
 // The two lines are what the status byte says.
@@ -71,7 +68,10 @@ fn agrees<S: DriveString>(port: &mut Controller<S>, step: Step) -> bool {
 }
 
 // Makes the calls in their order, up to the first that does not give its answer, and tells its place.
-pub fn first_difference<S: DriveString>(port: &mut Controller<S>, steps: &[Step]) -> Option<usize> {
+pub(crate) fn first_difference<S: DriveString>(
+    port: &mut Controller<S>,
+    steps: &[Step],
+) -> Option<usize> {
     for (i, step) in steps.iter().enumerate() {
         if !agrees(port, *step) || !lines_agree(port) {
             return Some(i);
@@ -81,7 +81,11 @@ pub fn first_difference<S: DriveString>(port: &mut Controller<S>, steps: &[Step]
 }
 
 // Writes parameters and a command, all of which are accepted.
-pub fn issue<S: DriveString>(port: &mut Controller<S>, parameters: &[u8], command: u8) -> bool {
+pub(crate) fn issue<S: DriveString>(
+    port: &mut Controller<S>,
+    parameters: &[u8],
+    command: u8,
+) -> bool {
     let mut fine = true;
     for byte in parameters {
         fine &= port.write_data(*byte).is_ok();
@@ -90,7 +94,7 @@ pub fn issue<S: DriveString>(port: &mut Controller<S>, parameters: &[u8], comman
 }
 
 // Reads so many results as there should be, and then no byte more.
-pub fn results<S: DriveString>(port: &mut Controller<S>, bytes: &[u8]) -> bool {
+pub(crate) fn results<S: DriveString>(port: &mut Controller<S>, bytes: &[u8]) -> bool {
     let mut fine = true;
     for byte in bytes {
         fine &= port.read_data() == Ok(*byte);
@@ -99,12 +103,12 @@ pub fn results<S: DriveString>(port: &mut Controller<S>, bytes: &[u8]) -> bool {
 }
 
 // Specify with a data length of 128, the last head 1 and the last sector 3, by x^16+x^12+x^5+1 from FFFF.
-pub fn specify<S: DriveString>(port: &mut Controller<S>) -> bool {
+pub(crate) fn specify<S: DriveString>(port: &mut Controller<S>) -> bool {
     issue(port, &[0x10, 0xd0, 0x80, 1, 3, 0, 0, 0], 0x20) & (port.status() == 0x40)
 }
 
 // Gives so many bytes, each followed by a turn: value, value + 1, ...
-pub fn give<S: DriveString>(port: &mut Controller<S>, value: u8, count: u16) -> bool {
+pub(crate) fn give<S: DriveString>(port: &mut Controller<S>, value: u8, count: u16) -> bool {
     let mut fine = true;
     let mut byte = value;
     for _ in 0..count {
@@ -117,7 +121,7 @@ pub fn give<S: DriveString>(port: &mut Controller<S>, value: u8, count: u16) -> 
 }
 
 // Makes so many turns, each of which brings one byte: value, value + 1, ...
-pub fn take<S: DriveString>(port: &mut Controller<S>, value: u8, count: u16) -> bool {
+pub(crate) fn take<S: DriveString>(port: &mut Controller<S>, value: u8, count: u16) -> bool {
     let mut fine = true;
     let mut byte = value;
     for _ in 0..count {
@@ -129,7 +133,7 @@ pub fn take<S: DriveString>(port: &mut Controller<S>, value: u8, count: u16) -> 
 }
 
 // Formats the first so many slots of a track of unit 0: logical cylinder 0, the head's own number, sectors from 0.
-pub fn format<S: DriveString>(port: &mut Controller<S>, head: u8, count: u8) -> bool {
+pub(crate) fn format<S: DriveString>(port: &mut Controller<S>, head: u8, count: u8) -> bool {
     let mut fine = issue(port, &[head, count, 0xe5, 0, 44], 0x70);
     port.turn();
     for slot in 0..count {
@@ -142,7 +146,7 @@ pub fn format<S: DriveString>(port: &mut Controller<S>, head: u8, count: u8) -> 
 }
 
 // Writes one sector of logical cylinder 0 of unit 0, with data bytes value, value + 1, ...
-pub fn write_sector<S: DriveString>(
+pub(crate) fn write_sector<S: DriveString>(
     port: &mut Controller<S>,
     head: u8,
     sector: u8,
@@ -156,7 +160,7 @@ pub fn write_sector<S: DriveString>(
 }
 
 // Reads one sector of logical cylinder 0 of unit 0, with data bytes value, value + 1, ...
-pub fn read_sector<S: DriveString>(
+pub(crate) fn read_sector<S: DriveString>(
     port: &mut Controller<S>,
     head: u8,
     sector: u8,
