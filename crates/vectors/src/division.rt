@@ -1,36 +1,76 @@
 use check_bytes::kind::CheckKind;
 use check_bytes::rule::Start;
 use check_bytes::scheme::CheckScheme;
+use std::alloc::{AllocError, Global};
 
-// The generator: bit i is the coefficient of x^i.
-fn generator(kind: CheckKind) -> u32 {
+// The generators, highest coefficient first.
+const CRC: [bool; 17] = [
+    true, false, false, false, true, false, false, false, false, false, false, true, false, false,
+    false, false, true,
+];
+
+const LRC: [bool; 17] = [
+    true, false, false, false, false, false, false, false, false, false, false, false, false,
+    false, false, false, true,
+];
+
+fn generator(kind: CheckKind) -> &'static [bool; 17] {
     match kind {
-        CheckKind::Crc => 0x11021,
-        CheckKind::Lrc => 0x10001,
+        CheckKind::Crc => &CRC,
+        CheckKind::Lrc => &LRC,
     }
 }
 
-// Brings the eight coefficients of a byte down, highest first, and takes the generator away where it fits.
-fn bring_down(generator: u32, left: u32, byte: u8) -> u32 {
-    (0u8..8).rev().fold(left, |left, place| {
-        let next = left << 1 | (byte >> place & 1) as u32;
-        if next >= 0x10000 {
-            next ^ generator
-        } else {
-            next
-        }
-    })
+// A byte's coefficients, highest first.
+fn coefficients(byte: u8) -> [bool; 8] {
+    [0x80, 0x40, 0x20, 0x10, 8, 4, 2, 1].map(|place: u8| byte & place != 0)
 }
 
-// The remainder by long division as on paper, which shares no code with the check register. The dividend is the bytes
-// and sixteen zeros, its first sixteen coefficients turned over where the register starts at ones.
-pub fn divide(scheme: CheckScheme<CheckKind>, bytes: &[u8]) -> u32 {
-    let generator = generator(scheme.rule);
-    let from_ones = scheme.start == Start::Ones;
-    bytes
-        .iter()
-        .chain(&[0, 0])
-        .enumerate()
-        .map(|(i, byte)| if from_ones && i < 2 { !*byte } else { *byte })
-        .fold(0, |left, byte| bring_down(generator, left, byte))
+// The dividend's coefficients, highest first: the bytes, then sixteen zeros, the first sixteen turned over where the
+// register starts at ones.
+fn dividend(heap: Global, start: Start, bytes: &[u8]) -> Result<Vec<bool>, AllocError> {
+    let mut bits = Vec::new(heap);
+    for byte in bytes.iter().chain(&[0, 0]) {
+        bits.extend_from_slice(&coefficients(*byte))?;
+    }
+    if start == Start::Ones {
+        bits.iter_mut().take(16).for_each(|bit| *bit = !*bit);
+    }
+    Ok(bits)
+}
+
+// Takes the generator away from the coefficients that begin here.
+fn subtract(bits: &mut [bool], generator: &[bool; 17]) {
+    for (bit, coefficient) in bits.iter_mut().zip(generator) {
+        *bit = *bit != *coefficient;
+    }
+}
+
+// Long division as on paper, a coefficient after the other; what is left stands in the last sixteen.
+fn reduce(bits: &mut [bool], generator: &[bool; 17]) {
+    for i in 0..bits.len().saturating_sub(16) {
+        if bits[i] {
+            subtract(&mut bits[i..], generator);
+        }
+    }
+}
+
+// The last sixteen coefficients as a number.
+fn last_sixteen(bits: &[bool]) -> u32 {
+    bits.iter()
+        .rev()
+        .take(16)
+        .rev()
+        .fold(0, |number, bit| number << 1 | *bit as u32)
+}
+
+// The remainder by long division, which shares nothing with the check register.
+pub fn divide(
+    heap: Global,
+    scheme: CheckScheme<CheckKind>,
+    bytes: &[u8],
+) -> Result<u32, AllocError> {
+    let mut bits = dividend(heap, scheme.start, bytes)?;
+    reduce(bits.as_mut_slice(), generator(scheme.rule));
+    Ok(last_sixteen(bits.as_slice()))
 }

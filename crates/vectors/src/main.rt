@@ -2,6 +2,8 @@
 // It prints a table, and ends with an error where one differs.
 #![tactic(auto)]
 
+ghost use Rattle.std.specs.Iterator.{IsFinite};
+
 mod cases;
 mod division;
 mod published;
@@ -9,48 +11,48 @@ mod row;
 mod schemes;
 
 use anyhow::anyhow;
-use cases::{CASES, case_bytes};
+use cases::{CASES, Case, case_bytes};
 use division::divide;
 use published::VECTORS;
 use row::Row;
 use std::alloc::{AllocError, Global};
 
-// The given values.
-fn published_rows(heap: Global) -> Result<Vec<Row>, AllocError> {
-    VECTORS
-        .iter()
-        .map(|v| Row::of(v.scheme, v.bytes, v.expected, Some(v.source)))
-        .collect(heap)
+// The division of a case beside its check.
+fn division_row(heap: Global, case: &Case) -> Result<Row, AllocError> {
+    let bytes = case_bytes(heap, case)?;
+    let expected = divide(heap, case.scheme, bytes.as_slice())?;
+    Ok(Row::of(case.scheme, bytes.as_slice(), expected, None))
 }
 
-// The divisions.
-fn division_rows(heap: Global) -> Result<Vec<Row>, AllocError> {
-    CASES
-        .iter()
-        .map(|case| {
-            let bytes = case_bytes(heap, case)?;
-            let expected = divide(case.scheme, bytes.as_slice());
-            Ok(Row::of(case.scheme, bytes.as_slice(), expected, None))
-        })
-        .try_collect(heap)
-}
-
-// Shows the rows, and answers whether all of them agree.
-fn show(rt: &HostRuntime, heading: &str, rows: Vec<Row>) -> anyhow::Result<bool> {
+// Shows each row as it comes, and answers whether all of them agree.
+fn show<I: Iterator<Item = Result<Row, AllocError>>>(
+    rt: &HostRuntime,
+    heading: &str,
+    rows: I,
+) -> anyhow::Result<bool>
+    requires { I.can_next rows × IsFinite (I.remaining rows) }
+{
     println!(rt; "{heading}:")?;
-    for row in &rows {
+    let mut agree = true;
+    for row in rows {
+        let row = row?;
         println!(rt; "{row}")?;
+        agree = agree && row.agrees();
     }
-    Ok(rows.iter().all(Row::agrees))
+    Ok(agree)
 }
 
 fn run(rt: &HostRuntime) -> anyhow::Result<()> {
     let heap = rt.alloc();
-    let published = show(rt, "Values given elsewhere", published_rows(heap)?)?;
+    let published = show(
+        rt,
+        "Values given elsewhere",
+        VECTORS.iter().map(|v| Ok(Row::of(v.scheme, v.bytes, v.expected, Some(v.source)))),
+    )?;
     let divided = show(
         rt,
         "Compared with a plain bitwise long division in this program",
-        division_rows(heap)?,
+        CASES.iter().map(|case| division_row(heap, case)),
     )?;
     if !published || !divided {
         return Err(anyhow!("a check differs from the value that it should have"));
