@@ -21,6 +21,7 @@ impl CheckRule for Lrc16 {
     }
 
     // What passes x^16 comes back at the low end.
+    #[tactic(auto, using(crate::proofs::Wide::folded_by_bytes))]
     fn feed(&self, register: u32, byte: u8) -> u32 {
         let [low, high, ..] = register.to_le_bytes();
         (high ^ byte) as u32 ^ (low as u32) << 8
