@@ -3,7 +3,7 @@ use native.Mathlib.Nat.{sub-zero}
 use Rattle.std.proofs.lemmas.List.{append-nil}
 use Rattle.std.proofs.lemmas.Result.{err_from_is_err_and}
 use Rattle.plans.specs.Bytes.{stages_in}
-use Rattle.plans.proofs.Scans.{onto, onto_nil, stages_short, stages_unknown, stages_more}
+use Rattle.plans.proofs.Scans.{onto, onto_nil, stages_short, stages_broken_off, stages_read}
 use Rattle.plans.proofs.plan.decode.read_stages.Goals as goal
 
 pub loop-i-init : goal.loop-i-init
@@ -29,14 +29,14 @@ returns-in_err-movement c =
     (inr
     (sym
     (ap (onto (vec_items c.loop-i.stages))
-    (stages_unknown _ _ (c.loop-i.i + 1) c.loop-i.rest.now _ _ e enough c.read_movement.ensures c.in_err-movement.was))
+    (stages_broken_off _ _ (c.loop-i.i + 1) c.loop-i.rest.now _ _ e enough c.read_movement.ensures c.in_err-movement.was))
     ∙ c.loop-i.invariant))
 
 pub loop-i-preserved : goal.loop-i-preserved
 loop-i-preserved c =
     let enough : 3 ≤ length c.loop-i.rest.now = omega (arith, ltb-false) in
     let e : c.args.count - c.loop-i.i ≡ suc (c.args.count - (c.loop-i.i + 1)) = omega arith in
-    stages_more _ _ (c.loop-i.i + 1) c.loop-i.rest.now _ _ (vec_items c.loop-i.stages) (vec_items c.push.new.self)
+    stages_read _ _ (c.loop-i.i + 1) c.loop-i.rest.now _ _ (vec_items c.loop-i.stages) (vec_items c.push.new.self)
     e enough c.read_movement.ensures c.in_ok-movement.was c.in_ok-push.ensures.items
     ∙ c.loop-i.invariant
 
