@@ -1,5 +1,5 @@
 -- A string with every unit held.
-use Rattle.std.proofs.Common.{◌≡◌, ℕ, zero, suc, Bool, true, false, ltb, List, [], ◌∷◌, map, length, sym, refl, ap, ◌∙◌, ⊎_elim, arith}
+use Rattle.std.proofs.Common.{◌≡◌, ℕ, zero, suc, Bool, true, false, ltb, ◌⊎◌, inl, inr, List, [], ◌∷◌, map, length, sym, refl, ap, ◌∙◌, ⊎_elim, arith}
 use mathlib.Core.Path.{fun_ext}
 use Rattle.std.proofs.lemmas.List.{get_or_past, get_or-map, length-map}
 use Rattle.std.proofs.lemmas.Bool.{cases_lt, lt-ltb, le-ltb}
@@ -85,8 +85,8 @@ module _ (ds : List Drive) where
     unfolding hold
     held_bytes = shows_below (λ (d : Drive). d.bytes) (λ d. refl) ds u
 
-    pub held_line : (line : Line) → same_line line Protect ≡ false → (drive (all_held ds) u).lines line ≡ (drive ds u).lines line
-    held_line line e = shows_below (λ (d : Drive). d.lines line) (line_below line e) ds u
+    pub held_other_line : (line : Line) → same_line line Protect ≡ false → (drive (all_held ds) u).lines line ≡ (drive ds u).lines line
+    held_other_line line e = shows_below (λ (d : Drive). d.lines line) (line_below line e) ds u
 
     pub held_protect : (drive (all_held ds) u).lines Protect ≡ ltb u (length ds)
     unfolding all_held drive hold
@@ -114,4 +114,42 @@ module _ (ds : List Drive) where
     protect_held value = not_felt (with_line Protect value) (holds_protect value) ds u
 
 -- what each method of a collar answers and alters
-pub ruleset held = (held_length, held_shape, held_cylinder, held_marks, held_bytes, held_line, held_protect, step_held, mark_held, byte_held, line_held, protect_held)
+pub ruleset held = (held_length, held_shape, held_cylinder, held_marks, held_bytes, held_other_line, held_protect, step_held, mark_held, byte_held, line_held, protect_held)
+
+-- the same for any question and any change
+module _ (ds : List Drive) where
+  -- what holding leaves alone shows as below
+  pub held_shows : {X : Type 0} (q : Drive → X) (u : ℕ) → ((d : Drive) → q (hold d) ≡ q d) → q (drive (all_held ds) u) ≡ q (drive ds u)
+  held_shows q u e = shows_below q e ds u
+
+  -- a change that goes with holding is made below
+  pub held_changed : (f : Drive → Drive) (u : ℕ) → ((d : Drive) → hold (f d) ≡ f (hold d)) → all_held (changed ds u f) ≡ changed (all_held ds) u f
+  held_changed f u e = made_below f e ds u
+
+  pub held_keeps_protect : (value : Bool) (u : ℕ) → all_held ds ≡ changed (all_held ds) u (with_line Protect value)
+  held_keeps_protect value u = sym (protect_held ds u value)
+
+pub hold_pulsed : (direction : Direction) (d : Drive) → hold (pulsed direction d) ≡ pulsed direction (hold d)
+unfolding hold with_cylinder
+hold_pulsed direction d = refl
+
+pub hold_mark : (p : Part) (h s : ℕ) (value : Bool) (d : Drive) → hold (with_mark p h s value d) ≡ with_mark p h s value (hold d)
+unfolding hold with_mark
+hold_mark p h s value d = refl
+
+pub hold_byte : (p : Part) (h s i value : ℕ) (d : Drive) → hold (with_byte p h s i value d) ≡ with_byte p h s i value (hold d)
+unfolding hold with_byte
+hold_byte p h s i value d = refl
+
+not_protect : (line : Line) → (line ≡ Ready) ⊎ (line ≡ Fault) → same_line line Protect ≡ false
+not_protect Ready e = refl
+not_protect Fault e = refl
+not_protect Protect (inl e) = absurd (let z : ◌≡◌ {A = ℕ} 0 1 = cc in omega arith)
+not_protect Protect (inr e) = absurd (let z : ◌≡◌ {A = ℕ} 0 1 = cc in omega arith)
+
+module _ (ds : List Drive) (line : Line) (e : (line ≡ Ready) ⊎ (line ≡ Fault)) (u : ℕ) where
+  pub held_line : (drive (all_held ds) u).lines line ≡ (drive ds u).lines line
+  held_line = held_other_line ds u line (not_protect line e)
+
+  pub held_set_line : (value : Bool) → all_held (changed ds u (with_line line value)) ≡ changed (all_held ds) u (with_line line value)
+  held_set_line value = line_held ds u line (not_protect line e) value

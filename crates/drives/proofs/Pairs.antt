@@ -2,7 +2,7 @@
 use Rattle.std.proofs.Common.{◌≡◌, ℕ, ◌+◌, ◌-◌, ◌<◌, ◌≤◌, min, List, ◌++◌, length, get_or, take, drop, set, sym, ap, ◌∙◌, arith, length-append, length-take, drop-set-lt}
 use lib.Seq.{take-set-lt}
 use Rattle.std.proofs.lemmas.List.{get_or-take, get_or_append_left, get_or-append_right, get_or_past, set-append_left, set-append_right, set_past}
-use Rattle.drives.specs.declared.pair.Side.TheVariants.{First, Second}
+use Rattle.drives.specs.declared.pair.Side.TheVariants.{First, Second, Neither}
 use Rattle.drives.specs.Drives.{Drive, drive, absent}
 use Rattle.drives.specs.Changes.{changed}
 use Rattle.drives.specs.Joined.{joined, left_over}
@@ -33,10 +33,16 @@ module _ (xs ys : List Drive) where
     unfolding joined left_over
     side_second n e l m = among ys (λ zs. xs ++ zs) u (u - n) m (get_or-append_right xs ys n u absent (sym e) l) (λ d. sym (set-append_right xs ys n u d (sym e) l))
 
-    -- where neither has a unit, nothing shows in either and nothing changes
-    pub side_neither : 8 ≤ u → length ys ≤ 8 → SideOf xs ys u (Second u)
+    pub side_neither : 8 ≤ u → SideOf xs ys u Neither
     unfolding joined changed drive
-    side_neither l m =
+    side_neither l =
+        let past : length (take 8 (xs ++ ys)) ≤ u = omega (arith, length-take 8 (xs ++ ys)) in
+        (get_or_past (take 8 (xs ++ ys)) u absent past, λ f. sym (set_past (take 8 (xs ++ ys)) u _ past))
+
+    -- where neither has a unit, nothing shows in the second and nothing changes there
+    pub neither_as_second : 8 ≤ u → length ys ≤ 8 → SideOf xs ys u (Second u)
+    unfolding joined changed drive
+    neither_as_second l m =
         let past : length (take 8 (xs ++ ys)) ≤ u = omega (arith, length-take 8 (xs ++ ys)) in
         let still : (f : Drive → Drive) → changed ys u f ≡ ys = λ f. set_past ys u _ (omega arith) in
         record {

@@ -20,8 +20,10 @@ pub record Sound (ds : List Drive) : Type 0 where
   pub each : (u : ℕ) → SoundDrive (drive ds u)
 
 -- what the meaning does not name: of memory how long it is, where its first slot begins and what each of its bytes
--- holds besides; of two strings joined the units past the eighth and what either does not name
+-- holds besides; of two strings joined the units past the eighth and what either does not name; of a string that is lent
+-- which loan it is, so that who lent it gets back what the loan holds at its end
 pub data Rest : Type 0 where
   nothing : Rest
   memory : ℕ → ℕ → (ℕ → ℕ) → Rest
   both : List Drive → Rest → Rest → Rest
+  loan : ℕ → Rest → Rest

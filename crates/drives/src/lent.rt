@@ -1,3 +1,5 @@
+ghost use Rattle.drives.specs.Sound.{loan};
+
 use crate::geometry::Geometry;
 use crate::numbers::PhysicalCylinder;
 use crate::parts::{Direction, Line, Part, Place};
@@ -7,7 +9,7 @@ use crate::string::DriveString;
 impl<S: DriveString> DriveString for &mut S {
     ghost meaning = { λ s. S.DriveString.meaning s.now };
 
-    ghost rest = { λ s. S.DriveString.rest s.now };
+    ghost rest = { λ s. loan s.ghost_name (S.DriveString.rest s.now) };
 
     ghost sound = { λ s. S.DriveString.sound s.now };
 

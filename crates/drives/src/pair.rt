@@ -19,6 +19,7 @@ pub struct Pair<A, B> {
 enum Side {
     First(u8),
     Second(u8),
+    Neither,
 }
 
 fn which_side<A: DriveString, B: DriveString>(pair: &Pair<A, B>, unit: u8) -> Side
@@ -30,12 +31,12 @@ fn which_side<A: DriveString, B: DriveString>(pair: &Pair<A, B>, unit: u8) -> Si
     } else if unit < 8 {
         Side::Second(unit - first)
     } else {
-        // Past the eighth, where no string has a unit.
-        Side::Second(unit)
+        // Past the eighth no string has a unit: nested pairs are not asked.
+        Side::Neither
     }
 }
 
-// Each method has both arms: one closure can't serve two types of string, and none may be handed out as `dyn`.
+// Each method has its three arms: one closure can't serve two types of string, and none may be handed out as `dyn`.
 impl<A: DriveString, B: DriveString> DriveString for Pair<A, B> {
     ghost meaning = { λ p. joined (A.DriveString.meaning p.first) (B.DriveString.meaning p.second) };
 
@@ -52,6 +53,7 @@ impl<A: DriveString, B: DriveString> DriveString for Pair<A, B> {
         match which_side(self, unit) {
             Side::First(u) => self.first.geometry(u),
             Side::Second(u) => self.second.geometry(u),
+            Side::Neither => Geometry::none(),
         }
     }
 
@@ -59,6 +61,7 @@ impl<A: DriveString, B: DriveString> DriveString for Pair<A, B> {
         match which_side(self, unit) {
             Side::First(u) => self.first.cylinder(u),
             Side::Second(u) => self.second.cylinder(u),
+            Side::Neither => PhysicalCylinder(0),
         }
     }
 
@@ -66,6 +69,7 @@ impl<A: DriveString, B: DriveString> DriveString for Pair<A, B> {
         match which_side(self, unit) {
             Side::First(u) => self.first.line(u, line),
             Side::Second(u) => self.second.line(u, line),
+            Side::Neither => false,
         }
     }
 
@@ -73,6 +77,7 @@ impl<A: DriveString, B: DriveString> DriveString for Pair<A, B> {
         match which_side(self, place.unit) {
             Side::First(u) => self.first.mark(place.on(u), part),
             Side::Second(u) => self.second.mark(place.on(u), part),
+            Side::Neither => false,
         }
     }
 
@@ -80,6 +85,7 @@ impl<A: DriveString, B: DriveString> DriveString for Pair<A, B> {
         match which_side(self, place.unit) {
             Side::First(u) => self.first.byte(place.on(u), part, i),
             Side::Second(u) => self.second.byte(place.on(u), part, i),
+            Side::Neither => 0,
         }
     }
 
@@ -87,6 +93,7 @@ impl<A: DriveString, B: DriveString> DriveString for Pair<A, B> {
         match which_side(self, unit) {
             Side::First(u) => self.first.pulse(u, direction),
             Side::Second(u) => self.second.pulse(u, direction),
+            Side::Neither => (),
         }
     }
 
@@ -94,6 +101,7 @@ impl<A: DriveString, B: DriveString> DriveString for Pair<A, B> {
         match which_side(self, unit) {
             Side::First(u) => self.first.set_line(u, line, value),
             Side::Second(u) => self.second.set_line(u, line, value),
+            Side::Neither => (),
         }
     }
 
@@ -101,6 +109,7 @@ impl<A: DriveString, B: DriveString> DriveString for Pair<A, B> {
         match which_side(self, place.unit) {
             Side::First(u) => self.first.set_mark(place.on(u), part, value),
             Side::Second(u) => self.second.set_mark(place.on(u), part, value),
+            Side::Neither => (),
         }
     }
 
@@ -108,6 +117,7 @@ impl<A: DriveString, B: DriveString> DriveString for Pair<A, B> {
         match which_side(self, place.unit) {
             Side::First(u) => self.first.set_byte(place.on(u), part, i, value),
             Side::Second(u) => self.second.set_byte(place.on(u), part, i, value),
+            Side::Neither => (),
         }
     }
 }

@@ -4,7 +4,7 @@ ghost use Rattle.memory.specs.declared.rack.RackMemory.TheVariants.{Image as Rac
 ghost use Rattle.images.specs.Fresh.{new, fresh_state, cartridge_state, empty_cells};
 
 use crate::trailer::{Checked, check_image};
-use memory::bytes::Memory;
+use memory::bytes::{Contiguous, Memory};
 use memory::cells::Cells;
 use memory::lent::Lent;
 use memory::owned::Owned;
@@ -59,8 +59,8 @@ pub fn image_state(bytes: &[u8]) -> State
     }
 }
 
-// A new unit over an image, whatever memory holds it.
-fn image_over<M: Memory>(memory: M) -> Unit<M>
+// A new unit over an image, whatever memory holds it in one slice.
+fn image_over<M: Contiguous>(memory: M) -> Unit<M>
     ensures state { result.state ≡ fresh_state (M.contents memory) }
     ensures memory { result.memory ≡ memory }
 {

@@ -4,22 +4,19 @@ ghost use Rattle.std.specs.Prelude.{◌≡◌, ℕ, List, length, slice_index, s
 pub trait Memory {
     ghost contents: { Self → List ℕ };
 
-    fn bytes(&self) -> &[u8]
-        ensures { result.now ≡ contents self.now };
+    fn size(&self) -> usize
+        ensures { result ≡ length (contents self.now) };
+
+    fn get(&self, i: usize) -> u8
+        ensures { result ≡ slice_index (contents self.now) i };
 
     // A write and no slice lent to be changed: of an array's it is not proved what comes back.
     fn put(&mut self, i: usize, value: u8)
         ensures { contents self.new ≡ slice_set (contents self.old) i value };
+}
 
-    final fn size(&self) -> usize
-        ensures { result ≡ length (contents self.now) }
-    {
-        self.bytes().len()
-    }
-
-    final fn get(&self, i: usize) -> u8
-        ensures { result ≡ slice_index (contents self.now) i }
-    {
-        self.bytes().get(i).copied().unwrap_or(0)
-    }
+// Memory that lies in one slice. Not every memory does: two chips may stand side by side.
+pub trait Contiguous: Memory {
+    fn bytes(&self) -> &[u8]
+        ensures { result.now ≡ Self.contents self.now };
 }

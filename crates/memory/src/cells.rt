@@ -1,7 +1,7 @@
 ghost use Rattle.std.specs.Prelude.{◌≡◌, replicate};
 
-use crate::bytes::Memory;
-use crate::slices::set_byte_at;
+use crate::bytes::{Contiguous, Memory};
+use crate::slices::{byte_at, count, set_byte_at};
 
 // The bytes of a cartridge: 2 cylinders, 2 heads, 4 slots of 139 bytes.
 #[derive(Drop)]
@@ -20,11 +20,21 @@ impl Cells {
 impl Memory for Cells {
     ghost contents = { λ m. m.bytes };
 
-    fn bytes(&self) -> &[u8] {
-        &self.bytes
+    fn size(&self) -> usize {
+        count(&self.bytes)
+    }
+
+    fn get(&self, i: usize) -> u8 {
+        byte_at(&self.bytes, i)
     }
 
     fn put(&mut self, i: usize, value: u8) {
         set_byte_at(&mut self.bytes, i, value);
+    }
+}
+
+impl Contiguous for Cells {
+    fn bytes(&self) -> &[u8] {
+        &self.bytes
     }
 }

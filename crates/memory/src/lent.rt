@@ -1,5 +1,5 @@
-use crate::bytes::Memory;
-use crate::slices::set_byte_at;
+use crate::bytes::{Contiguous, Memory};
+use crate::slices::{byte_at, set_byte_at};
 
 // Memory of the caller.
 #[derive(Drop)]
@@ -10,11 +10,21 @@ pub struct Lent<'a> {
 impl Memory for Lent<'_> {
     ghost contents = { λ m. m.bytes.now };
 
-    fn bytes(&self) -> &[u8] {
-        self.bytes
+    fn size(&self) -> usize {
+        self.bytes.len()
+    }
+
+    fn get(&self, i: usize) -> u8 {
+        byte_at(&self.bytes, i)
     }
 
     fn put(&mut self, i: usize, value: u8) {
         set_byte_at(self.bytes, i, value);
+    }
+}
+
+impl Contiguous for Lent<'_> {
+    fn bytes(&self) -> &[u8] {
+        &self.bytes
     }
 }

@@ -7,3 +7,5 @@ pub mod lent;
 pub mod owned;
 pub mod rack;
 mod slices;
+#[cfg(test)]
+mod two_bytes;

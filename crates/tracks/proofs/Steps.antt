@@ -1,7 +1,8 @@
 -- Changes of one unit, one after another.
-use Rattle.std.proofs.Common.{◌≡◌, ℕ, ◌+◌, ◌/◌, ◌<◌, false, List, length, get_or, set, sym, refl, ap, ◌∙◌, ⊎_elim, add-one, arith, length-set, get_or-set_same, set-set}
+use Rattle.std.proofs.Common.{◌≡◌, ℕ, zero, suc, ◌+◌, ◌/◌, ◌<◌, Bool, false, ◌||◌, List, [], ◌∷◌, length, get_or, set, sym, refl, ap, ◌∙◌, ⊎_elim, add-one, arith, length-set, get_or-set_same, set-set}
 use lib.Seq.{set-get_or}
-use Rattle.std.proofs.lemmas.List.{set_past}
+use Rattle.std.proofs.lemmas.List.{set_past, same_lists, places}
+use Rattle.std.specs.List.{list_any, range_with_len}
 use Rattle.std.proofs.lemmas.Bool.{cases_lt}
 use Rattle.std.proofs.lemmas.Bool.Decides.{nat_tests}
 use Rattle.check_bytes.specs.Schemes.{Divider}
@@ -11,7 +12,7 @@ use Rattle.drives.specs.Drives.{Drive, drive, absent, is_byte}
 use Rattle.drives.specs.Changes.{changed, with_byte, with_mark}
 use Rattle.drives.specs.Sound.{SoundDrive}
 use Rattle.sectors.specs.Fields.{field_bytes}
-use Rattle.tracks.specs.Marks.{lowered, track_opened}
+use Rattle.tracks.specs.Marks.{some_slot, lowered, track_opened}
 use Rattle.tracks.specs.Writes.{with_bytes, byte_of_check, with_check}
 
 module _ (ds : List Drive) (u : ℕ) where
@@ -27,6 +28,17 @@ module _ (ds : List Drive) (u : ℕ) where
   pub changed_by_none : changed ds u (λ d. d) ≡ ds
   unfolding changed
   changed_by_none = set-get_or ds u absent
+
+-- the last of a run of slots counts too
+last_counts : (test : ℕ → Bool) (a n : ℕ) → list_any test (range_with_len a (suc n)) ≡ (list_any test (range_with_len a n) || test (a + n))
+last_counts test a zero = let e : a + 0 ≡ a = omega arith in grind (arith, nat_tests)
+last_counts test a (suc n) =
+    let e : a + 1 + n ≡ a + suc n = omega arith in
+    let rest = last_counts test (a + 1) n in
+    grind (arith, nat_tests)
+
+pub some_more : (test : ℕ → Bool) (s : ℕ) → some_slot test (s + 1) ≡ (some_slot test s || test s)
+some_more test s = rw add-one (last_counts test 0 s ∙ ap (λ n. some_slot test s || test n) (omega arith))
 
 module _ (ds : List Drive) (u : ℕ) (p : Part) (h s from : ℕ) (f : ℕ → ℕ) where
   pub bytes_none : changed ds u (with_bytes p h s from f 0) ≡ ds
@@ -60,7 +72,7 @@ module _ (ds : List Drive) (u h : ℕ) where
 pub ruleset slot_steps = (lowered_none, lowered_more, lowered_all)
 
 -- a byte of a field past sixteen bits of index does not exist
-no_such_byte : (d : Drive) (h s i v : ℕ) → SoundDrive d → 65535 < i → with_byte Data h s i v d ≡ d
+pub no_such_byte : (d : Drive) (h s i v : ℕ) → SoundDrive d → 65535 < i → with_byte Data h s i v d ≡ d
 unfolding with_byte
 no_such_byte d h s i v sound l =
     let b = sound.bounds in
@@ -70,6 +82,9 @@ no_such_byte d h s i v sound l =
 pub past_field : (ds : List Drive) (u h s i v : ℕ) → SoundDrive (drive ds u) → 65535 < i → ds ≡ changed ds u (with_byte Data h s i v)
 unfolding changed drive
 past_field ds u h s i v sound l = sym (ap (set ds u) (no_such_byte (get_or ds u absent) h s i v sound l) ∙ set-get_or ds u absent)
+
+pub four : (xs : List ℕ) → length xs ≡ 4 → xs ≡ get_or xs 0 0 ∷ get_or xs 1 0 ∷ get_or xs 2 0 ∷ get_or xs 3 0 ∷ []
+four xs l = same_lists _ _ (omega arith) (λ k d h. grind (arith, places))
 
 -- all bytes of a check
 pub check_all : (ds : List Drive) (u g n start h s length k : ℕ) → k ≡ n / 8 → let by : Divider = record { generator = g; degree = n; start = start } in changed ds u (with_bytes Data h s length (byte_of_check by (field_bytes (drive ds u) h s 0 length)) k) ≡ changed ds u (with_check by h s length)

@@ -18,11 +18,20 @@ use Rattle.units.specs.Rows.{slot_at, area, part_start, with_bit, marks_in, byte
 use Rattle.units.specs.Units.{shape_in, standing, lines_of, with_state_line, unit_of, alone, rest_of}
 use Rattle.units.specs.Found.{Missing, Standing}
 use Rattle.units.proofs.Slots.{place_inside, bits_kept, part_inside}
-use Rattle.units.proofs.Writes.{marks_of, bytes_stay, marks_stay, bytes_of, rest_stays}
+use Rattle.units.proofs.Writes.{mark_of, bytes_stay, marks_stay, bytes_of, rest_stays}
 
 -- a unit that has a place fits its row
 pub row_holds : (l : Layout) (n c h s : ℕ) → is_place (shape_in l n) c h s ≡ true → l.first + area (shape_in l n) ≤ n
 row_holds l n c h s there = grind (arith, nat_tests)
+
+-- a unit alone, by its number
+pub here : (d : Drive) (u : ℕ) → u ≡ 0 → drive (d ∷ []) u ≡ d
+unfolding drive
+here d u e = rw e
+
+pub changed_here : (d : Drive) (u : ℕ) (f : Drive → Drive) → u ≡ 0 → changed (d ∷ []) u f ≡ f d ∷ []
+unfolding changed
+changed_here d u f e = rw e
 
 -- where it is not the unit, or the unit shows nothing there
 pub shows_none : {X : Type 0} (d : Drive) (u : ℕ) (q : Drive → X) → (u ≡ 0 → q d ≡ q absent) → q (drive (d ∷ []) u) ≡ q absent
@@ -70,7 +79,7 @@ module _ (g : Shape) (lines : Line → Bool) (c first : ℕ) (row : List ℕ) (h
   unfolding with_mark
   mark_set p value =
       let l : first + slot_at g c h s < length row = omega (arith, inside_row) in
-      same_parts _ (marks_of g first row c h s there p value l) (bytes_stay g first row c h s there _ l)
+      same_parts _ (mark_of g first row c h s there p value l) (bytes_stay g first row c h s there _ l)
 
   pub byte_set : (p : Part) (i value : ℕ) → i < part_size g p → over g lines c first (set row (first + slot_at g c h s + (part_start p + i)) value) ≡ with_byte p h s i value (over g lines c first row)
   unfolding with_byte
@@ -132,7 +141,11 @@ standing_next : (direction : Direction) (cylinders n : ℕ) → min (next_cylind
 standing_next Inward cylinders n = grind (arith, nat_tests)
 standing_next Outward cylinders n = omega arith
 
-pub heads_moved : (direction : Direction) (st : State) (row : List ℕ) (u : ℕ) → u ≡ 0 → alone (record st { cylinder = next_cylinder direction (shape_in st.layout (length row)).cylinders (standing st (length row)) }) row ≡ changed (alone st row) u (pulsed direction)
+-- a state with its heads elsewhere
+abbrev pub at_cylinder : ℕ → State → State
+at_cylinder n st = record st { cylinder = n }
+
+pub heads_moved : (direction : Direction) (st : State) (row : List ℕ) (u : ℕ) → u ≡ 0 → alone (at_cylinder (next_cylinder direction (shape_in st.layout (length row)).cylinders (standing st (length row))) st) row ≡ changed (alone st row) u (pulsed direction)
 unfolding unit_of with_cylinder changed
 heads_moved direction st row u e = rw e (ap (λ n. record (unit_of st row) { cylinder = n } ∷ []) (standing_next direction _ st.cylinder))
 
@@ -171,9 +184,9 @@ pub changed_elsewhere : (d : Drive) (u : ℕ) (f : Drive → Drive) → (u ≡ 0
 changed_elsewhere d u f n = changes_none d u f (λ e. absurd (n e))
 
 -- the unit alone
-pub here : (st : State) (row : List ℕ) (u : ℕ) → u ≡ 0 → drive (alone st row) u ≡ over (shape_in st.layout (length row)) (lines_of st) (standing st (length row)) st.layout.first row
+pub alone_here : (st : State) (row : List ℕ) (u : ℕ) → u ≡ 0 → drive (alone st row) u ≡ over (shape_in st.layout (length row)) (lines_of st) (standing st (length row)) st.layout.first row
 unfolding unit_of drive
-here st row u e = rw e
+alone_here st row u e = rw e
 
 -- what each method of a unit answers and alters
-pub ruleset alone_steps = (nat_tests, here, elsewhere, line_set, heads_moved, changed_elsewhere)
+pub ruleset alone_steps = (nat_tests, alone_here, elsewhere, line_set, heads_moved, changed_elsewhere)

@@ -9,4 +9,4 @@ pub returns-then-unit-lt8 : goal.returns-then-unit-lt8
 returns-then-unit-lt8 g c = side_second _ _ c.args.unit _ c.units-first.ensures c.if-unit-first.false c.if-unit-lt8.true
 
 pub returns-else-unit-lt8 : goal.returns-else-unit-lt8
-returns-else-unit-lt8 g c = side_neither _ _ c.args.unit c.if-unit-lt8.false (g.met.B.DriveString.sound _).few
+returns-else-unit-lt8 g c = side_neither _ _ c.args.unit c.if-unit-lt8.false
