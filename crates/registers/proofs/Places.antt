@@ -5,6 +5,7 @@ use Rattle.std.proofs.Math.Seq.{set-append_seam}
 use Rattle.std.proofs.lemmas.Bool.{cases_lt}
 use Rattle.std.proofs.lemmas.List.{take_more_set, length-replicate, get_or-replicate, get_or_past}
 use Rattle.registers.specs.Places.{places}
+use Rattle.registers.proofs.Held.{shifted}
 
 -- they tell how many bytes it holds
 pub given_back : (bytes : List ℕ) (count : ℕ) → count ≤ 8 → bytes ≡ places (take count bytes) → length (take count bytes) ≡ count
@@ -46,8 +47,12 @@ behind_first (a ∷ b ∷ c ∷ d ∷ e ∷ f ∷ g ∷ h ∷ []) bytes p few = 
 behind_first (a ∷ b ∷ c ∷ d ∷ e ∷ f ∷ g ∷ h ∷ i ∷ xs) bytes p few = absurd (omega arith)
 
 -- they are those of all but the first byte
-pub rest_placed : (bytes : List ℕ) (n : ℕ) → n ≤ 8 → bytes ≡ places (take n bytes) → moved_up bytes ≡ places (drop 1 (take n bytes))
+rest_placed : (bytes : List ℕ) (n : ℕ) → n ≤ 8 → bytes ≡ places (take n bytes) → moved_up bytes ≡ places (drop 1 (take n bytes))
 rest_placed bytes n few p = behind_first (take n bytes) bytes p (simp length-take (omega arith))
+
+-- and so they are by what is counted then
+pub rest_counted : (bytes : List ℕ) (n m : ℕ) → length bytes ≡ 8 → n ≤ 8 → m ≡ n - 1 → bytes ≡ places (take n bytes) → moved_up bytes ≡ places (take m (moved_up bytes))
+rest_counted bytes n m whole few fewer p = rw (fewer, shifted bytes n whole few) (rest_placed bytes n few p)
 
 first_free : (xs : List ℕ) (n m x : ℕ) → length xs ≡ n → set (xs ++ replicate (suc m) 0) n x ≡ (xs ++ (x ∷ [])) ++ replicate m 0
 first_free xs n m x l = rw (← l) (set-append_seam xs 0 (replicate m 0) x ∙ sym (append_assoc xs (x ∷ []) (replicate m 0)))
