@@ -6,6 +6,7 @@ use Rattle.drives.specs.Sound.{Rest}
 use Rattle.registers.specs.declared.running.Running.{Running}
 use Rattle.registers.specs.declared.status.Flags.{Flags}
 use Rattle.registers.specs.declared.units.UnitRecords.{UnitRecords}
+use Rattle.registers.specs.Buffers.{held}
 use Rattle.registers.specs.Records.{all_zero}
 use Rattle.registers.specs.Requests.{no_flags}
 use Rattle.transfers.specs.Steps.{Path}
@@ -22,7 +23,7 @@ pub record State : Type 0 where
 -- what a controller shows, by what its string of drives means
 abbrev pub seen : {S : Type 0} → Ghosts S → Controller S → State
 seen g c =
-    record { drives = g.meaning c.path.string; buffer = c.path.buffer; rest = g.rest c.path.string; registers = c.registers }
+    record { drives = g.meaning c.path.string; buffer = held c.path.buffer; rest = g.rest c.path.string; registers = c.registers }
 
 -- a fresh controller: nothing runs, nothing is set, every PCN is 0
 abbrev pub fresh : List Drive → Rest → State

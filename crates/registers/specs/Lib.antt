@@ -1,4 +1,5 @@
 pub mod Bits
+pub mod Places
 pub mod Buffers
 pub mod Kinds
 pub mod Settings

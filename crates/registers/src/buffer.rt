@@ -1,7 +1,5 @@
-ghost use Rattle.std.specs.Prelude.{◌≡◌, ◌≤◌, [], length, take, drop, slice_index};
-ghost use Rattle.registers.specs.Buffers.{added};
-
-use std::marker::Model;
+ghost use Rattle.std.specs.Prelude.{◌≡◌, ◌≤◌, take};
+ghost use Rattle.registers.specs.Places.{places};
 
 // At most eight bytes, the oldest first. The places behind them are 0, so that two buffers with the same bytes are the
 // same.
@@ -9,30 +7,16 @@ use std::marker::Model;
 pub struct Buffer {
     bytes: [u8; 8],
     count: u8,
-}
-
-// To its contracts a buffer is the list of its bytes.
-impl Model for Buffer {
-    ghost use Rattle.std.specs.Prelude.{◌≡◌, ℕ, ◌≤◌, List, length, take};
-    ghost use Rattle.registers.specs.Buffers.{places};
-
-    ghost Value = { List ℕ };
-
-    ghost view = { λ b. take b.count b.bytes };
-
-    ghost invariant = { λ b. (b.count ≤ 8) × (b.bytes ≡ places (take b.count b.bytes)) };
-
-    ghost inverse = { λ bytes. record { bytes = places bytes; count = length bytes } };
-
-    ghost use Rattle.registers.specs.Buffers.{given_back};
-    ghost use Rattle.std.proofs.Common.{rules};
-
-    ghost inverse_ok = { λ b h. Prim.rw (← h.1, given_back b.bytes b.count h.0 h.1) (Prim.search rules) };
+    ghost few: { count ≤ 8 },
+    ghost padded: { bytes ≡ places (take count bytes) },
 }
 
 impl Buffer {
+    ghost use Rattle.std.specs.Prelude.{◌≡◌, ◌≤◌, [], length, take, drop, slice_index};
+    ghost use Rattle.registers.specs.Buffers.{held, added};
+
     pub fn empty() -> Buffer
-        ensures { result ≡ [] }
+        ensures { held result ≡ [] }
     {
         Buffer {
             bytes: [0; 8],
@@ -42,7 +26,7 @@ impl Buffer {
 
     // The first eight of these bytes.
     pub fn of(bytes: &[u8]) -> Buffer
-        ensures { result ≡ take 8 bytes.now }
+        ensures { held result ≡ take 8 bytes.now }
     {
         let mut buffer = Buffer::empty();
         for byte in bytes {
@@ -52,22 +36,22 @@ impl Buffer {
     }
 
     pub fn count(self) -> u8
-        ensures value { result ≡ length self }
-        ensures few { length self ≤ 8 }
+        ensures value { result ≡ length (held self) }
+        ensures few { length (held self) ≤ 8 }
     {
         self.count
     }
 
     // Byte i, counted from the oldest; 0 where there is none.
     pub fn get(self, i: u8) -> u8
-        ensures { result ≡ slice_index self i }
+        ensures { result ≡ slice_index (held self) i }
     {
         self.bytes.get(i as usize).copied().unwrap_or(0)
     }
 
     // One byte more; a full buffer stays as it is.
     pub fn with(self, byte: u8) -> Buffer
-        ensures { result ≡ added self byte }
+        ensures { held result ≡ added (held self) byte }
     {
         if self.count >= 8 {
             return self;
@@ -82,7 +66,7 @@ impl Buffer {
 
     // Without the oldest byte.
     pub fn rest(self) -> Buffer
-        ensures { result ≡ drop 1 self }
+        ensures { held result ≡ drop 1 (held self) }
     {
         let [_, b, c, d, e, f, g, h] = self.bytes;
         Buffer {

@@ -1,4 +1,5 @@
 ghost use Rattle.std.specs.Prelude.{◌≡◌};
+ghost use Rattle.registers.specs.Buffers.{held};
 ghost use Rattle.registers.specs.Settings.{mode_legal, length_byte_legal, rule_chosen, start_chosen, specified};
 
 use crate::bits::is_set;
@@ -46,7 +47,7 @@ fn start_of(high: u8) -> Start
 
 // The setting that Specify's parameters ask for, or none where one of them is not legal.
 pub fn setting_of(parameters: Buffer) -> Option<Setting>
-    ensures { result ≡ specified parameters }
+    ensures { result ≡ specified (held parameters) }
 {
     let mode = parameters.get(0);
     let high = parameters.get(1);

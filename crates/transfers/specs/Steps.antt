@@ -6,6 +6,7 @@ use Rattle.drives.specs.declared.string.DriveString.{Ghosts}
 use Rattle.drives.specs.Drives.{Drive}
 use Rattle.drives.specs.Sound.{Rest}
 use Rattle.registers.specs.declared.end.End.{End}
+use Rattle.registers.specs.Buffers.{held}
 use Rattle.transfers.specs.declared.path.DataPath.{DataPath}
 use Rattle.transfers.specs.Tests.{Test}
 
@@ -17,7 +18,7 @@ pub record Path : Type 0 where
 
 -- what a data path shows, by what its string of drives means
 abbrev pub shown : {S : Type 0} → Ghosts S → DataPath S → Path
-shown g path = record { drives = g.meaning path.string; buffer = path.buffer; rest = g.rest path.string }
+shown g path = record { drives = g.meaning path.string; buffer = held path.buffer; rest = g.rest path.string }
 
 -- a command goes on as it now stands, or it has ended, standing so
 abbrev pub Outcome : Type 0 → Type 0

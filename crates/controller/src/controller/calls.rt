@@ -1,4 +1,5 @@
 ghost use Rattle.std.specs.Prelude.{◌≡◌, length};
+ghost use Rattle.registers.specs.Buffers.{held};
 ghost use Rattle.registers.specs.Requests.{data_request, status_byte, interrupt};
 ghost use Rattle.controller.specs.State.{seen, fresh};
 ghost use Rattle.controller.specs.Starting.{command_step};
@@ -65,7 +66,7 @@ impl<S: DriveString> Controller<S> {
 
     // The status register.
     pub fn status(&self) -> u8
-        ensures { result ≡ status_byte self.now.registers.running self.now.registers.flags (length self.now.path.buffer) }
+        ensures { result ≡ status_byte self.now.registers.running self.now.registers.flags (length (held self.now.path.buffer)) }
     {
         status_byte(
             self.registers.running,
@@ -83,7 +84,7 @@ impl<S: DriveString> Controller<S> {
 
     // The DMA request.
     pub fn dma_request(&self) -> bool
-        ensures { result ≡ data_request self.now.registers.running (length self.now.path.buffer) }
+        ensures { result ≡ data_request self.now.registers.running (length (held self.now.path.buffer)) }
     {
         data_request(self.registers.running, self.path.buffer.count())
     }

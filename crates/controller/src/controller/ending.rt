@@ -1,4 +1,5 @@
 ghost use Rattle.std.specs.Prelude.{◌≡◌};
+ghost use Rattle.registers.specs.Buffers.{held};
 ghost use Rattle.controller.specs.State.{seen};
 ghost use Rattle.controller.specs.Ending.{ended, plain_flags, end_flags, seek_ended, transfer_ended, format_ended};
 
@@ -34,7 +35,7 @@ fn end_flags(end: End) -> Flags
 impl<S: DriveString> Controller<S> {
     // Ends the running command: its results replace what the buffer held.
     pub(super) fn finish(&mut self, flags: Flags, results: Buffer)
-        ensures { seen S.DriveString self.new ≡ ended flags results (seen S.DriveString self.old) }
+        ensures { seen S.DriveString self.new ≡ ended flags (held results) (seen S.DriveString self.old) }
     {
         self.path.buffer = results;
         self.registers = Registers {

@@ -1,5 +1,6 @@
 ghost use Rattle.std.specs.Prelude.{◌≡◌};
 ghost use Rattle.drives.specs.Drives.{drive};
+ghost use Rattle.registers.specs.Buffers.{held};
 ghost use Rattle.controller.specs.State.{seen};
 ghost use Rattle.controller.specs.Starting.{parameters, begun, invalid, reset_done, auxiliary_done, setting_made, unit_status, sensed, recalibrate_begun, seek_begun, format_legal, format_begun, numbers_of, transfer_begun};
 
@@ -26,7 +27,7 @@ const LONGEST_GAP: u8 = 44;
 
 // The numbers that a transfer's parameters name.
 fn numbers_of(parameters: Buffer) -> Numbers
-    ensures { result ≡ numbers_of parameters }
+    ensures { result ≡ numbers_of (held parameters) }
 {
     Numbers {
         head: PhysicalHead(parameters.get(0)),
@@ -41,7 +42,7 @@ fn numbers_of(parameters: Buffer) -> Numbers
 
 // Whether a Format's parameters are legal.
 fn is_format(parameters: Buffer) -> bool
-    ensures { result ≡ format_legal parameters }
+    ensures { result ≡ format_legal (held parameters) }
 {
     parameters.get(1) > 0 && parameters.get(4) <= LONGEST_GAP
 }
@@ -66,7 +67,7 @@ fn unit_status<S: DriveString>(string: &S, unit: u8) -> u8
 impl<S: DriveString> Controller<S> {
     // The parameters in the buffer; results are none.
     pub(super) fn parameters(&self) -> Buffer
-        ensures { result ≡ parameters (seen S.DriveString self.now) }
+        ensures { held result ≡ parameters (seen S.DriveString self.now) }
     {
         if self.registers.results {
             Buffer::empty()
@@ -154,14 +155,14 @@ impl<S: DriveString> Controller<S> {
     }
 
     pub(super) fn begin_seek(&mut self, unit: u8, parameters: Buffer)
-        ensures { seen S.DriveString self.new ≡ seek_begun unit parameters (seen S.DriveString self.old) }
+        ensures { seen S.DriveString self.new ≡ seek_begun unit (held parameters) (seen S.DriveString self.old) }
     {
         let target = PhysicalCylinder(u16::from_be_bytes([parameters.get(0), parameters.get(1)]));
         self.begin(Some(Running::Seek { unit, target }));
     }
 
     pub(super) fn begin_format(&mut self, unit: u8, setting: Setting, parameters: Buffer)
-        ensures { seen S.DriveString self.new ≡ format_begun unit setting parameters (seen S.DriveString self.old) }
+        ensures { seen S.DriveString self.new ≡ format_begun unit setting (held parameters) (seen S.DriveString self.old) }
     {
         if !is_format(parameters) {
             self.begin_invalid();
@@ -186,7 +187,7 @@ impl<S: DriveString> Controller<S> {
         setting: Setting,
         parameters: Buffer,
     )
-        ensures { seen S.DriveString self.new ≡ transfer_begun kind unit setting parameters (seen S.DriveString self.old) }
+        ensures { seen S.DriveString self.new ≡ transfer_begun kind unit setting (held parameters) (seen S.DriveString self.old) }
     {
         let numbers = numbers_of(parameters);
         if numbers.count == 0 {
