@@ -20,6 +20,10 @@ pub record Path : Type 0 where
 abbrev pub shown : {S : Type 0} → Ghosts S → DataPath S → Path
 shown g path = record { drives = g.meaning path.string; buffer = held path.buffer; rest = g.rest path.string }
 
+-- what a string of drives and a buffer beside it show
+abbrev pub beside : {S : Type 0} → Ghosts S → S → List ℕ → Path
+beside g string buffer = record { drives = g.meaning string; buffer = buffer; rest = g.rest string }
+
 -- a command goes on as it now stands, or it has ended, standing so
 abbrev pub Outcome : Type 0 → Type 0
 Outcome T = ControlFlow (End × T) T

@@ -1,5 +1,5 @@
 ghost use Rattle.std.specs.Prelude.{◌≡◌};
-ghost use Rattle.transfers.specs.Steps.{shown};
+ghost use Rattle.transfers.specs.Steps.{shown, beside};
 ghost use Rattle.transfers.specs.Formats.{first_format_test, format_test, track_turn, slot_turn, format_turn};
 
 use crate::outcome::Outcome;
@@ -8,6 +8,7 @@ use crate::ready::line_test;
 use drives::numbers::Slot;
 use drives::parts::Line;
 use drives::string::DriveString;
+use registers::buffer::Buffer;
 use registers::end::End;
 use registers::running::{Format, FormatStage};
 use std::ops::ControlFlow::{Break, Continue};
@@ -93,4 +94,32 @@ impl<S: DriveString> DataPath<S> {
             FormatStage::Writing(slot) => self.slot_turn(f, slot),
         }
     }
+}
+
+// A turn on a path whose string is lent, with the buffer after it: the path keeps the loan.
+fn turn_on_loan<S: DriveString>(path: &mut DataPath<&mut S>, f: Format) -> (Outcome<Format>, Buffer)
+    ensures same_loan { path.new.string.ghost_name ≡ path.old.string.ghost_name }
+    ensures state { (result.0, beside S.DriveString path.new.string.now result.1) ≡ format_turn f (beside S.DriveString path.old.string.now path.old.buffer) }
+    ensures rest { S.DriveString.rest path.new.string.now ≡ S.DriveString.rest path.old.string.now }
+{
+    let outcome = path.format_turn(f);
+    (outcome, path.buffer)
+}
+
+// The same turn over a string and a buffer that are lent.
+pub fn format_turn<S: DriveString>(
+    string: &mut S,
+    buffer: &mut Buffer,
+    f: Format,
+) -> Outcome<Format>
+    ensures state { (result, beside S.DriveString string.new buffer.new) ≡ format_turn f (beside S.DriveString string.old buffer.old) }
+    ensures rest { S.DriveString.rest string.new ≡ S.DriveString.rest string.old }
+{
+    let mut path = DataPath {
+        string,
+        buffer: *buffer,
+    };
+    let (outcome, left) = turn_on_loan(&mut path, f);
+    *buffer = left;
+    outcome
 }

@@ -1,6 +1,6 @@
 ghost use Rattle.std.specs.Prelude.{◌≡◌};
 ghost use Rattle.drives.specs.Drives.{drive};
-ghost use Rattle.transfers.specs.Steps.{shown};
+ghost use Rattle.transfers.specs.Steps.{shown, beside};
 ghost use Rattle.transfers.specs.Transfers.{sector_wants, first_test, turn_test, stopped, not_found, search_turn, byte_done, byte_read, byte_taken, byte_turn, counted_on, check_turn, waiting_turn, transfer_turn};
 
 use crate::outcome::Outcome;
@@ -9,6 +9,7 @@ use crate::ready::line_test;
 use drives::numbers::Slot;
 use drives::parts::{Line, Part};
 use drives::string::DriveString;
+use registers::buffer::Buffer;
 use registers::end::End;
 use registers::kind::Kind;
 use registers::numbers::Numbers;
@@ -214,4 +215,35 @@ impl<S: DriveString> DataPath<S> {
             Stage::Waiting(end) => self.waiting_turn(t, end),
         }
     }
+}
+
+// A turn on a path whose string is lent, with the buffer after it: the path keeps the loan.
+fn turn_on_loan<S: DriveString>(
+    path: &mut DataPath<&mut S>,
+    t: Transfer,
+) -> (Outcome<Transfer>, Buffer)
+    ensures same_loan { path.new.string.ghost_name ≡ path.old.string.ghost_name }
+    ensures state { (result.0, beside S.DriveString path.new.string.now result.1) ≡ transfer_turn t (beside S.DriveString path.old.string.now path.old.buffer) }
+    ensures rest { S.DriveString.rest path.new.string.now ≡ S.DriveString.rest path.old.string.now }
+{
+    let outcome = path.transfer_turn(t);
+    (outcome, path.buffer)
+}
+
+// The same turn over a string and a buffer that are lent.
+pub fn transfer_turn<S: DriveString>(
+    string: &mut S,
+    buffer: &mut Buffer,
+    t: Transfer,
+) -> Outcome<Transfer>
+    ensures state { (result, beside S.DriveString string.new buffer.new) ≡ transfer_turn t (beside S.DriveString string.old buffer.old) }
+    ensures rest { S.DriveString.rest string.new ≡ S.DriveString.rest string.old }
+{
+    let mut path = DataPath {
+        string,
+        buffer: *buffer,
+    };
+    let (outcome, left) = turn_on_loan(&mut path, t);
+    *buffer = left;
+    outcome
 }
