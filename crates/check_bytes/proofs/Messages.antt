@@ -1,5 +1,5 @@
 -- Byte strings as polynomials.
-use Rattle.std.proofs.Common.{◌≡◌, ℕ, zero, suc, ◌+◌, ◌*◌, ◌/◌, ◌%◌, ◌^◌, ◌<◌, List, [], ◌∷◌, length, fold, refl, ap, ◌∙◌, not-suc-le-zero, mod-lt, zero-add, mul-suc, arith, lit<, pow_pos, pow-add}
+use Rattle.std.proofs.Common.{◌≡◌, ℕ, zero, suc, ◌+◌, ◌*◌, ◌/◌, ◌%◌, ◌^◌, ◌<◌, List, [], ◌∷◌, ◌++◌, length, fold, refl, ap, ◌∙◌, not-suc-le-zero, mod-lt, zero-add, mul-suc, arith, lit<, pow_pos, pow-add}
 use lib.Bits.{bit_xor, xor_self, xor_block}
 use Rattle.std.proofs.lemmas.Nat.{mod-pow-add, mul-add-lt}
 use Rattle.check_bytes.specs.Checks.{message, check_bytes}
@@ -8,6 +8,10 @@ use Rattle.check_bytes.specs.Theorems.{Bytes}
 -- the bytes after others that came to m
 abbrev pub spelt : ℕ → List ℕ → ℕ
 spelt m bytes = fold (λ m byte. m * 2 ^ 8 + byte) m bytes
+
+pub spelt_append : (m : ℕ) (xs ys : List ℕ) → spelt m (xs ++ ys) ≡ spelt (spelt m xs) ys
+spelt_append m [] ys = refl
+spelt_append m (x ∷ xs) ys = spelt_append (m * 2 ^ 8 + x) xs ys
 
 pub spelt_from : (m : ℕ) (bs : List ℕ) → spelt m bs ≡ m * 2 ^ (8 * length bs) + message bs
 spelt_from m [] = omega arith

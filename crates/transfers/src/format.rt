@@ -1,4 +1,5 @@
 ghost use Rattle.std.specs.Prelude.{◌≡◌};
+ghost use Rattle.registers.specs.Buffers.{held};
 ghost use Rattle.transfers.specs.Steps.{shown, beside};
 ghost use Rattle.transfers.specs.Formats.{first_format_test, format_test, track_turn, slot_turn, format_turn};
 
@@ -99,7 +100,7 @@ impl<S: DriveString> DataPath<S> {
 // A turn on a path whose string is lent, with the buffer after it: the path keeps the loan.
 fn turn_on_loan<S: DriveString>(path: &mut DataPath<&mut S>, f: Format) -> (Outcome<Format>, Buffer)
     ensures same_loan { path.new.string.ghost_name ≡ path.old.string.ghost_name }
-    ensures state { (result.0, beside S.DriveString path.new.string.now result.1) ≡ format_turn f (beside S.DriveString path.old.string.now path.old.buffer) }
+    ensures state { (result.0, beside S.DriveString path.new.string.now (held result.1)) ≡ format_turn f (beside S.DriveString path.old.string.now (held path.old.buffer)) }
     ensures rest { S.DriveString.rest path.new.string.now ≡ S.DriveString.rest path.old.string.now }
 {
     let outcome = path.format_turn(f);
@@ -112,7 +113,7 @@ pub fn format_turn<S: DriveString>(
     buffer: &mut Buffer,
     f: Format,
 ) -> Outcome<Format>
-    ensures state { (result, beside S.DriveString string.new buffer.new) ≡ format_turn f (beside S.DriveString string.old buffer.old) }
+    ensures state { (result, beside S.DriveString string.new (held buffer.new)) ≡ format_turn f (beside S.DriveString string.old (held buffer.old)) }
     ensures rest { S.DriveString.rest string.new ≡ S.DriveString.rest string.old }
 {
     let mut path = DataPath {

@@ -1,5 +1,6 @@
 ghost use Rattle.std.specs.Prelude.{◌≡◌};
 ghost use Rattle.drives.specs.Drives.{drive};
+ghost use Rattle.registers.specs.Buffers.{held};
 ghost use Rattle.transfers.specs.Steps.{shown, beside};
 ghost use Rattle.transfers.specs.Transfers.{sector_wants, first_test, turn_test, stopped, not_found, search_turn, byte_done, byte_read, byte_taken, byte_turn, counted_on, check_turn, waiting_turn, transfer_turn};
 
@@ -223,7 +224,7 @@ fn turn_on_loan<S: DriveString>(
     t: Transfer,
 ) -> (Outcome<Transfer>, Buffer)
     ensures same_loan { path.new.string.ghost_name ≡ path.old.string.ghost_name }
-    ensures state { (result.0, beside S.DriveString path.new.string.now result.1) ≡ transfer_turn t (beside S.DriveString path.old.string.now path.old.buffer) }
+    ensures state { (result.0, beside S.DriveString path.new.string.now (held result.1)) ≡ transfer_turn t (beside S.DriveString path.old.string.now (held path.old.buffer)) }
     ensures rest { S.DriveString.rest path.new.string.now ≡ S.DriveString.rest path.old.string.now }
 {
     let outcome = path.transfer_turn(t);
@@ -236,7 +237,7 @@ pub fn transfer_turn<S: DriveString>(
     buffer: &mut Buffer,
     t: Transfer,
 ) -> Outcome<Transfer>
-    ensures state { (result, beside S.DriveString string.new buffer.new) ≡ transfer_turn t (beside S.DriveString string.old buffer.old) }
+    ensures state { (result, beside S.DriveString string.new (held buffer.new)) ≡ transfer_turn t (beside S.DriveString string.old (held buffer.old)) }
     ensures rest { S.DriveString.rest string.new ≡ S.DriveString.rest string.old }
 {
     let mut path = DataPath {
